@@ -1,0 +1,1 @@
+// The highest candidate and the least core. The theorems on them are in proofs/.

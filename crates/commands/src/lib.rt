@@ -1,0 +1,1 @@
+// The eight commands. The theorems on them are in proofs/.

@@ -1,0 +1,2 @@
+-- Helpers of the proofs. Nothing here needs to be believed.
+pub mod Matches

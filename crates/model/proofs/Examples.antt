@@ -1,0 +1,26 @@
+-- The cases of document 01's table hold of the definitions, each list by one computation. Assumes nothing.
+use mathlib.Core.Path.{_≡_, refl}
+use mathlib.Core.Bool.{true}
+use lib.Count.{leadingZeros}
+use Rattle.model.specs.Records.{reset}
+use Rattle.model.specs.Priorities.{floorLog2, priorityWidth, topPriority}
+use Rattle.model.specs.Walks.{every, some, walk, tree}
+use Rattle.model.specs.Requests.{boxed}
+use Rattle.model.specs.Arbitration.{highest, least, leastPriority}
+use Rattle.model.specs.WellFormed.{sizesInRange, listsWhole, sourceInRange, isEmptyBox, coreInRange, isResetSource, isResetCore, backedBy, sourcesInRange, coresInRange, sparesReset, boxesBacked, boxesDistinct, boxesClean, candidatesSettled, coveredSettled, wellFormed}
+use Rattle.model.specs.Settling.{retract, deliver, firstDirty, arbitrate, next, cycle, settle, countOf, cyclesOf}
+use Rattle.model.specs.Commands.{effect, refusalOf, refusal, answeredId, settled, refused, execute, run}
+use Rattle.model.specs.Ledger.{gather}
+use Rattle.model.specs.Cases.{numbered, start, setUp, answersAs, passes, allPass, marked, further}
+
+pub marked-pass : allPass marked ≡ true
+unfolding leadingZeros floorLog2 priorityWidth topPriority every some walk tree boxed highest least leastPriority sizesInRange listsWhole sourceInRange isEmptyBox coreInRange isResetSource isResetCore backedBy sourcesInRange coresInRange sparesReset boxesBacked boxesDistinct boxesClean candidatesSettled coveredSettled wellFormed retract deliver firstDirty arbitrate next cycle settle countOf cyclesOf effect refusalOf refusal answeredId settled refused execute run gather numbered start answersAs passes allPass marked
+marked-pass = refl
+
+pub further-pass : allPass further ≡ true
+unfolding leadingZeros floorLog2 priorityWidth topPriority every some walk tree boxed highest least leastPriority sizesInRange listsWhole sourceInRange isEmptyBox coreInRange isResetSource isResetCore backedBy sourcesInRange coresInRange sparesReset boxesBacked boxesDistinct boxesClean candidatesSettled coveredSettled wellFormed retract deliver firstDirty arbitrate next cycle settle countOf cyclesOf effect refusalOf refusal answeredId settled refused execute run gather numbered start answersAs passes allPass further
+further-pass = refl
+
+pub start-set-up : run (reset 32 2) (setUp 32) ≡ start
+unfolding leadingZeros floorLog2 priorityWidth topPriority every some walk tree boxed highest least leastPriority sizesInRange listsWhole sourceInRange isEmptyBox coreInRange isResetSource isResetCore backedBy sourcesInRange coresInRange sparesReset boxesBacked boxesDistinct boxesClean candidatesSettled coveredSettled wellFormed retract deliver firstDirty arbitrate next cycle settle countOf cyclesOf effect refusalOf refusal answeredId settled refused execute run gather numbered start setUp
+start-set-up = refl

@@ -1,0 +1,5 @@
+-- What is proved beside the definitions: laws that every crate above cites, and the worked cases.
+pub mod Bools
+pub mod Walks
+pub mod Boxes
+pub mod Examples

@@ -1,0 +1,44 @@
+-- The highest candidate and the least core. Definitions only. Assumes nothing.
+-- Source: document 01, "Settling", step 2, and the comparator tree.
+--   rank r            0 for no candidate, else one more than the request's priority, so that a candidate of priority 0 counts
+--   highest l n       the index of the first highest candidate of the first n sources, by the comparator tree;
+--                     it is a candidate unless there is none
+--   highestId l n     its id, 0 if there is none
+--   least l m         the first core of least current priority among the first m
+use Prim.Native.Nat.{ℕ, suc}
+use mathlib.Core.List.{List}
+use mathlib.Core.Bool.{Bool, cond}
+use lib.ListN.{getD}
+use lib.Dec.{ltb}
+use Rattle.model.specs.declared.Source.{Source}
+use Rattle.model.specs.declared.Core.{Core}
+use Rattle.model.specs.Records.{noSource, noCore}
+use Rattle.model.specs.Walks.{walk, tree}
+use Rattle.model.specs.Requests.{currentPriority, candidate}
+
+abbrev pub rank : Source → ℕ
+rank r = cond (candidate r) (suc (r .priority)) 0
+
+-- Source i is above source j: strictly, so on a tie the lower id stays.
+abbrev pub higher : List Source → ℕ → ℕ → Bool
+higher l i j = ltb (rank (getD l j noSource)) (rank (getD l i noSource))
+
+unfoldable pub highest : List Source → ℕ → ℕ
+highest l n = tree (higher l) n 0 n
+
+-- The same by a plain walk.
+unfoldable pub highestByWalk : List Source → ℕ → ℕ
+highestByWalk l n = walk (higher l) n
+
+unfoldable pub highestId : List Source → ℕ → ℕ
+highestId l n = cond (candidate (getD l (highest l n) noSource)) (suc (highest l n)) 0
+
+-- Core i is below core j: strictly, so on a tie the lower number stays.
+abbrev pub lower : List Core → ℕ → ℕ → Bool
+lower l i j = ltb (currentPriority (getD l i noCore)) (currentPriority (getD l j noCore))
+
+unfoldable pub least : List Core → ℕ → ℕ
+least l m = walk (lower l) m
+
+unfoldable pub leastPriority : List Core → ℕ → ℕ
+leastPriority l m = currentPriority (getD l (least l m) noCore)

@@ -1,0 +1,152 @@
+-- The ledger of a list of commands, and what is read off it. Definitions only. Assumes nothing.
+-- Source: document 01, "The list and the book". Document 01's word is "book".
+--   post b e                 the ledger after one entry: a command with the number and id that it answered, nothing else
+--   competes n b s id        the request of id 1 to n is open, and lies in a box of s or waits unmasked
+--   collection n m b s       every core's configured priority, and the priority of every request that competes
+--   Placement n m b s P      P gives each core k below m a request P k, or none (0)
+--   sortDown l               l sorted from the top, repeats kept
+-- Of the state only the boxes and the cores' current priorities are read.
+use Prim.Native.Nat.{ℕ, zero, suc, _<_, _≤_}
+use mathlib.Core.Path.{_≡_}
+use mathlib.Core.List.{List, [], _∷_, _++_}
+use mathlib.Core.Bool.{Bool, true, false, not, _&&_, _||_, cond}
+use lib.Dec.{ltb, eqb}
+use Rattle.model.specs.declared.Controller.{Controller}
+use Rattle.model.specs.declared.Core.{Core}
+use Rattle.model.specs.declared.Command.{Command}
+use Rattle.model.specs.declared.Command.the-variants.{SetSourcePriority, Mask, Unmask, SetCorePriority, Trigger, Claim, Redeliver, Complete}
+use Rattle.model.specs.Records.{coreAt}
+use Rattle.model.specs.Requests.{currentPriority, boxed}
+use Rattle.model.specs.WellFormed.{between}
+use Rattle.model.specs.Commands.{execute}
+
+-- ---- the ledger
+
+-- At most one request of a source, with its own priority.
+pub data Request : Type 0 where
+  noRequest : Request
+  openRequest : ℕ → Request
+  claimedRequest : ℕ → Request
+
+-- By core number, and by source id.
+pub record Ledger : Type 0 where
+  pub core : ℕ → ℕ
+  pub configured : ℕ → ℕ
+  pub masked : ℕ → Bool
+  pub request : ℕ → Request
+
+pub record Entry : Type 0 where
+  pub command : Command
+  pub number : ℕ
+  pub id : ℕ
+
+abbrev pub opening : Ledger
+opening = record { core = λ k. 0; configured = λ id. 1; masked = λ id. true; request = λ id. noRequest }
+
+-- f with the value at one place replaced
+abbrev pub write {ℓ} : {A : Type ℓ} → (ℕ → A) → ℕ → A → ℕ → A
+write f at v x = cond (eqb x at) v (f x)
+
+abbrev pub priorityOf : Request → ℕ
+priorityOf noRequest = 0
+priorityOf (openRequest p) = p
+priorityOf (claimedRequest p) = p
+
+abbrev pub isOpen : Request → Bool
+isOpen noRequest = false
+isOpen (openRequest p) = true
+isOpen (claimedRequest p) = false
+
+abbrev pub writeCore : ℕ → ℕ → Ledger → Ledger
+writeCore k p b =
+    record { core = write (b .core) k p; configured = b .configured; masked = b .masked; request = b .request }
+
+abbrev pub writeConfigured : ℕ → ℕ → Ledger → Ledger
+writeConfigured id p b =
+    record { core = b .core; configured = write (b .configured) id p; masked = b .masked; request = b .request }
+
+abbrev pub writeMask : ℕ → Bool → Ledger → Ledger
+writeMask id x b =
+    record { core = b .core; configured = b .configured; masked = write (b .masked) id x; request = b .request }
+
+abbrev pub writeRequest : ℕ → Request → Ledger → Ledger
+writeRequest id r b =
+    record { core = b .core; configured = b .configured; masked = b .masked; request = write (b .request) id r }
+
+-- An accepted command, with the id it answered.
+unfoldable pub postAccepted : Ledger → Command → ℕ → Ledger
+postAccepted b (SetSourcePriority id p) answered = writeConfigured (id .0) p b
+postAccepted b (Mask id) answered = writeMask (id .0) true b
+postAccepted b (Unmask id) answered = writeMask (id .0) false b
+postAccepted b (SetCorePriority k p) answered = writeCore (k .0) p b
+postAccepted b (Trigger id) answered = writeRequest (id .0) (openRequest (b .configured (id .0))) b
+postAccepted b (Claim k) answered =
+    writeCore (k .0) (priorityOf (b .request answered)) (writeRequest answered (claimedRequest (priorityOf (b .request answered))) b)
+postAccepted b (Redeliver id) answered = writeRequest (id .0) (openRequest (priorityOf (b .request (id .0)))) b
+postAccepted b (Complete id) answered = writeRequest (id .0) noRequest b
+
+-- A command answering a number other than 0 changes nothing.
+unfoldable pub post : Ledger → Entry → Ledger
+post b e = cond (eqb (e .number) 0) (postAccepted b (e .command) (e .id)) b
+
+unfoldable pub ledger : Ledger → List Entry → Ledger
+ledger b [] = b
+ledger b (e ∷ es) = ledger (post b e) es
+
+abbrev pub entryOf : Controller → Command → Entry
+entryOf s c = record { command = c; number = (execute s c) .number; id = (execute s c) .id .0 }
+
+-- What a list of commands answers, each getting the state that the one before handed back.
+unfoldable pub entries : Controller → List Command → List Entry
+entries s [] = []
+entries s (c ∷ cs) = entryOf s c ∷ entries ((execute s c) .state) cs
+
+-- ---- the collection, and placements
+
+-- The lists f 0, f 1, .., f (n - 1), joined.
+unfoldable pub gather : ℕ → (ℕ → List ℕ) → List ℕ
+gather zero f = []
+gather (suc k) f = gather k f ++ f k
+
+-- The numbers f 0, f 1, .., f (n - 1).
+abbrev pub row : ℕ → (ℕ → ℕ) → List ℕ
+row n f = gather n (λ k. f k ∷ [])
+
+-- An open request lies in a box if a filled box of the state handed back names it, else it waits.
+unfoldable pub competes : ℕ → ℕ → Ledger → Controller → ℕ → Bool
+competes n m b s id = between 1 n id && isOpen (b .request id) && (boxed (s .cores) m id || not (b .masked id))
+
+abbrev pub requestPriority : Ledger → ℕ → ℕ
+requestPriority b id = priorityOf (b .request id)
+
+unfoldable pub collection : ℕ → ℕ → Ledger → Controller → List ℕ
+collection n m b s =
+    row m (b .core) ++ gather n (λ i. cond (competes n m b s (suc i)) (requestPriority b (suc i) ∷ []) [])
+
+pub record Placement (n m : ℕ) (b : Ledger) (s : Controller) (P : ℕ → ℕ) : Type 0 where
+  -- only requests whose priorities the collection holds, each above its core's configured priority
+  pub placed : (k : ℕ) → k < m → 1 ≤ P k → competes n m b s (P k) ≡ true
+  pub above : (k : ℕ) → k < m → 1 ≤ P k → b .core k < requestPriority b (P k)
+  -- none used twice
+  pub once : (j k : ℕ) → j < m → k < m → 1 ≤ P j → P j ≡ P k → j ≡ k
+
+-- The current priority that a placement gives core k.
+abbrev pub given : Ledger → (ℕ → ℕ) → ℕ → ℕ
+given b P k = cond (ltb 0 (P k)) (requestPriority b (P k)) (b .core k)
+
+-- The filled boxes, as such a function.
+abbrev pub inBoxes : Controller → ℕ → ℕ
+inBoxes s k = cond ((coreAt s k) .message .filled) ((coreAt s k) .message .source .0) 0
+
+abbrev pub currentPriorities : ℕ → Controller → List ℕ
+currentPriorities m s = row m (λ k. currentPriority (coreAt s k))
+
+-- ---- sorting from the top
+
+unfoldable pub insertDown : ℕ → List ℕ → List ℕ
+insertDown x [] = x ∷ []
+insertDown x (y ∷ ys) = cond (ltb x y) (y ∷ insertDown x ys) (x ∷ y ∷ ys)
+
+unfoldable pub sortDown : List ℕ → List ℕ
+sortDown [] = []
+sortDown (x ∷ xs) = insertDown x (sortDown xs)

@@ -1,0 +1,22 @@
+-- Every definition that a reader of this project must believe, in the order of document 01.
+--   Records       the records, their blank and reset values, and every record literal of the project
+--   Priorities    the width of the priority field and the top priority
+--   Walks         "for each", "for some", and the first winner of a row, as a walk and as the comparator tree
+--   Requests      current priority, waiting, candidate, claimed, owner
+--   Arbitration   the highest candidate and the least core
+--   WellFormed    the sound-state test, clause by clause, and the same as a proposition
+--   Settling      one retraction, one delivery, and the run of cycles with its count
+--   Commands      effects, refusals, answers, making, and the run of a list of commands
+--   Ledger        the ledger kept from commands and their answers; collection, placement, sorting
+--   Statements    what is claimed of all this, as propositions; their proofs are in the crates above this one
+pub mod Records
+pub mod Priorities
+pub mod Walks
+pub mod Requests
+pub mod Arbitration
+pub mod WellFormed
+pub mod Settling
+pub mod Commands
+pub mod Ledger
+pub mod Statements
+pub mod Cases

@@ -1,0 +1,117 @@
+-- The records' blank and reset values, readers, and every record literal. Definitions only. Assumes nothing.
+-- Source: document 01, "What is held".
+--   noSource, noCore    what a reader answers past the end of a list: every field 0 or false. A core after a reset is the
+--                       same record; a source after a reset is not: its configured priority is 1 and it is masked.
+--   sourceAt s i        the source with id i + 1
+--   coreAt s k          core k
+use Prim.Native.Nat.{ℕ, pred}
+use mathlib.Core.List.{List}
+use mathlib.Core.Bool.{Bool, true, false}
+use lib.ListN.{getD, set, replicate}
+use Rattle.model.specs.declared.SourceId.{SourceId}
+use Rattle.model.specs.declared.CoreId.{CoreId}
+use Rattle.model.specs.declared.Source.{Source}
+use Rattle.model.specs.declared.MessageBox.{MessageBox}
+use Rattle.model.specs.declared.Core.{Core}
+use Rattle.model.specs.declared.Controller.{Controller}
+use Rattle.model.specs.declared.Answer.{Answer}
+
+-- The largest sizes: n is 1 to 128, m is 1 to 32.
+abbrev pub maxSources : ℕ
+maxSources = 128
+
+abbrev pub maxCores : ℕ
+maxCores = 32
+
+-- ---- ids
+
+abbrev pub sourceId : ℕ → SourceId
+sourceId id = record { 0 = id }
+
+abbrev pub coreId : ℕ → CoreId
+coreId k = record { 0 = k }
+
+-- Where the source with an id stands in the list. Id 0 names no source; every command refuses it first.
+abbrev pub indexOf : SourceId → ℕ
+indexOf id = pred (id .0)
+
+-- ---- a source
+
+abbrev pub noSource : Source
+noSource = record { configured = 0; masked = false; pending = false; delivered = false; priority = 0 }
+
+abbrev pub resetSource : Source
+resetSource = record { configured = 1; masked = true; pending = false; delivered = false; priority = 0 }
+
+abbrev pub withConfigured : ℕ → Source → Source
+withConfigured p r =
+    record { configured = p; masked = r .masked; pending = r .pending; delivered = r .delivered; priority = r .priority }
+
+abbrev pub withMask : Bool → Source → Source
+withMask b r =
+    record { configured = r .configured; masked = b; pending = r .pending; delivered = r .delivered; priority = r .priority }
+
+abbrev pub withDelivered : Bool → Source → Source
+withDelivered b r =
+    record { configured = r .configured; masked = r .masked; pending = r .pending; delivered = b; priority = r .priority }
+
+-- a new request, at the source's priority
+abbrev pub opened : Source → Source
+opened r =
+    record { configured = r .configured; masked = r .masked; pending = true; delivered = false; priority = r .configured }
+
+-- no request any more
+abbrev pub ended : Source → Source
+ended r = record { configured = r .configured; masked = r .masked; pending = false; delivered = false; priority = 0 }
+
+-- ---- a core and its message box
+
+abbrev pub emptyBox : MessageBox
+emptyBox = record { filled = false; dirty = false; source = sourceId 0; priority = 0 }
+
+-- a clean box that holds the request of a source
+abbrev pub holding : SourceId → ℕ → MessageBox
+holding id p = record { filled = true; dirty = false; source = id; priority = p }
+
+-- a filled box becomes dirty, an empty one stays as it is
+abbrev pub dirtied : MessageBox → MessageBox
+dirtied b = record { filled = b .filled; dirty = b .filled; source = b .source; priority = b .priority }
+
+abbrev pub coreWith : ℕ → MessageBox → Core
+coreWith p b = record { configured = p; message = b }
+
+abbrev pub noCore : Core
+noCore = coreWith 0 emptyBox
+
+abbrev pub resetCore : Core
+resetCore = coreWith 0 emptyBox
+
+-- ---- the controller
+
+abbrev pub sourceAt : Controller → ℕ → Source
+sourceAt s i = getD (s .sources) i noSource
+
+abbrev pub coreAt : Controller → ℕ → Core
+coreAt s k = getD (s .cores) k noCore
+
+abbrev pub withSources : Controller → List Source → Controller
+withSources s l = record { n = s .n; m = s .m; sources = l; cores = s .cores }
+
+abbrev pub withCores : Controller → List Core → Controller
+withCores s l = record { n = s .n; m = s .m; sources = s .sources; cores = l }
+
+abbrev pub withSource : Controller → ℕ → Source → Controller
+withSource s i r = withSources s (set (s .sources) i r)
+
+abbrev pub withCore : Controller → ℕ → Core → Controller
+withCore s k c = withCores s (set (s .cores) k c)
+
+-- Document 01: "fresh".
+abbrev pub reset : ℕ → ℕ → Controller
+reset n m =
+    record { n = n; m = m; sources = replicate maxSources resetSource; cores = replicate maxCores resetCore }
+
+-- ---- an answer
+
+abbrev pub answer : Controller → ℕ → ℕ → ℕ → Answer
+answer s number id cycles = record { state = s; number = number; id = sourceId id; cycles = cycles }

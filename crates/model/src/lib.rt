@@ -1,0 +1,74 @@
+// The records of the interrupt controller, by value. They carry no code: what they mean is said in specs/.
+// Document 01, "The controller and its sources" and "What is held".
+// Widths: ids, core numbers and priorities are u16, so that up to 1,023 sources with priorities up to 2,047 fit.
+
+// A source's id, 1 to n; 0 means none. Never a core number.
+pub struct SourceId(pub u16);
+
+// A core's number, 0 to m - 1. Never a source id.
+pub struct CoreId(pub u16);
+
+// One interrupt source, with at most one request.
+pub struct Source {
+    // the priority of its next request
+    pub configured: u16,
+    pub masked: bool,
+    pub pending: bool,
+    pub delivered: bool,
+    // the priority of the pending request, copied from the configured one at trigger; 0 when nothing is pending
+    pub priority: u16,
+}
+
+// Room for one delivered request. Document 01: "box".
+pub struct MessageBox {
+    pub filled: bool,
+    pub dirty: bool,
+    // the request held, and its priority; both 0 when the box is empty
+    pub source: SourceId,
+    pub priority: u16,
+}
+
+// One core's interface to the controller.
+pub struct Core {
+    pub configured: u16,
+    pub message: MessageBox,
+}
+
+// The whole state. Source id i stands at sources[i - 1], core k at cores[k];
+// records past n and past m are kept as after a reset.
+pub struct Controller {
+    pub n: u16,
+    pub m: u16,
+    pub sources: [Source; 128],
+    pub cores: [Core; 32],
+}
+
+// The eight commands, in the order of document 01's numbers 0 to 7 for them.
+pub enum Command {
+    SetSourcePriority(SourceId, u16),
+    Mask(SourceId),
+    Unmask(SourceId),
+    SetCorePriority(CoreId, u16),
+    Trigger(SourceId),
+    Claim(CoreId),
+    Redeliver(SourceId),
+    Complete(SourceId),
+}
+
+// What every call answers: the state handed back, document 01's number (0 is success),
+// the claimed id (0 for every other call), and the cycles of settling.
+pub struct Answer {
+    pub state: Controller,
+    pub number: u8,
+    pub id: SourceId,
+    pub cycles: u16,
+}
+
+// What one cycle of settling does.
+pub enum Cycle {
+    Rest,
+    // the core's dirty box is emptied
+    Retract(CoreId),
+    // the source's request goes into the core's box
+    Deliver(SourceId, CoreId),
+}

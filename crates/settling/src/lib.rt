@@ -1,0 +1,1 @@
+// One retraction, one delivery, and the run of them. The theorems on them are in proofs/.

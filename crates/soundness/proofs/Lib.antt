@@ -1,0 +1,1 @@
+-- What is proved here, for the crates above.
