@@ -1,7 +1,13 @@
 -- The cases of document 01's table hold of the definitions, each list by one computation. Assumes nothing.
+--   marked-pass     T1 to T12
+--   further-pass    further rows of the table, and the tie between two requests
+--   start-set-up    the table's start state is what 64 commands make of a fresh controller
 use mathlib.Core.Path.{_≡_, refl}
+use mathlib.Core.List.{List}
 use mathlib.Core.Bool.{true}
 use lib.Count.{leadingZeros}
+use Rattle.model.specs.declared.Controller.{Controller}
+use Rattle.model.specs.declared.Command.{Command}
 use Rattle.model.specs.Records.{reset}
 use Rattle.model.specs.Priorities.{floorLog2, priorityWidth, topPriority}
 use Rattle.model.specs.Walks.{every, some, walk, tree}
@@ -13,14 +19,19 @@ use Rattle.model.specs.Commands.{effect, refusalOf, refusal, answeredId,
 use Rattle.model.specs.Ledger.{gather}
 use Rattle.model.specs.Cases.{numbered, start, setUp, answersAs, passes, allPass, marked, further}
 
+-- To open this name is to open every definition that a run computes with.
+computed : Controller → List Command → Controller
+unfolding leadingZeros floorLog2 priorityWidth topPriority every some walk tree boxed highest least leastPriority sizesInRange listsWhole sourceInRange isEmptyBox coreInRange isResetSource isResetCore backedBy sourcesInRange coresInRange sparesReset boxesBacked boxesDistinct boxesClean candidatesSettled coveredSettled wellFormed retract deliver firstDirty arbitrate next cycle settle countOf cyclesOf effect refusalOf refusal answeredId settled refused execute run gather numbered start answersAs passes allPass
+computed = run
+
 pub marked-pass : allPass marked ≡ true
-unfolding leadingZeros floorLog2 priorityWidth topPriority every some walk tree boxed highest least leastPriority sizesInRange listsWhole sourceInRange isEmptyBox coreInRange isResetSource isResetCore backedBy sourcesInRange coresInRange sparesReset boxesBacked boxesDistinct boxesClean candidatesSettled coveredSettled wellFormed retract deliver firstDirty arbitrate next cycle settle countOf cyclesOf effect refusalOf refusal answeredId settled refused execute run gather numbered start answersAs passes allPass marked
+unfolding computed marked
 marked-pass = refl
 
 pub further-pass : allPass further ≡ true
-unfolding leadingZeros floorLog2 priorityWidth topPriority every some walk tree boxed highest least leastPriority sizesInRange listsWhole sourceInRange isEmptyBox coreInRange isResetSource isResetCore backedBy sourcesInRange coresInRange sparesReset boxesBacked boxesDistinct boxesClean candidatesSettled coveredSettled wellFormed retract deliver firstDirty arbitrate next cycle settle countOf cyclesOf effect refusalOf refusal answeredId settled refused execute run gather numbered start answersAs passes allPass further
+unfolding computed further
 further-pass = refl
 
 pub start-set-up : run (reset 32 2) (setUp 32) ≡ start
-unfolding leadingZeros floorLog2 priorityWidth topPriority every some walk tree boxed highest least leastPriority sizesInRange listsWhole sourceInRange isEmptyBox coreInRange isResetSource isResetCore backedBy sourcesInRange coresInRange sparesReset boxesBacked boxesDistinct boxesClean candidatesSettled coveredSettled wellFormed retract deliver firstDirty arbitrate next cycle settle countOf cyclesOf effect refusalOf refusal answeredId settled refused execute run gather numbered start setUp
+unfolding computed setUp
 start-set-up = refl
