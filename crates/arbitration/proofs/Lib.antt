@@ -1,1 +1,4 @@
 -- What is proved here, for the crates above.
+pub mod Winner
+pub mod Tree
+pub mod Depth

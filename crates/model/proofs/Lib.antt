@@ -2,4 +2,5 @@
 pub mod Bools
 pub mod Walks
 pub mod Boxes
+pub mod Priorities
 pub mod Examples

@@ -1,0 +1,138 @@
+-- The highest candidate by the comparator tree, and the least core: what they find. Assumes nothing.
+--   tree-is-walk, tree-finds-first     the tree agrees with the plain walk, and finds the first highest source
+--   highest-below, highest-ge          it is one of the n sources, and any candidate is at most a candidate there
+--   highest-id-exact                   its id, 0 exactly when there is no candidate
+--   least-is-first                     the least core is the first of least current priority
+--   least-below, least-le              it is one of the m cores, and none has a lower current priority
+use Prim.Native.Nat.{ℕ, suc, _<_, _≤_}
+use mathlib.Core.Path.{_≡_, subst}
+use mathlib.Core.List.{List}
+use mathlib.Core.Bool.{Bool, true, false, cond}
+use native.Mathlib.Omega.{arith}
+use lib.ListN.{getD}
+use borrow.Author.Tests.{ltb-true, ltb-false}
+use Rattle.model.specs.declared.Source.{Source}
+use Rattle.model.specs.declared.Core.{Core}
+use Rattle.model.specs.Records.{noSource, noCore}
+use Rattle.model.specs.Requests.{currentPriority, candidate}
+use Rattle.model.specs.Arbitration.{rank, higher, highest, highestByWalk, highestId, lower, least}
+use Rattle.model.specs.Statements.{TreeIsWalk, TreeFindsFirst, LeastIsFirst, HighestIdExact}
+use Rattle.model.proofs.Bools.{clash, Flag, on, off, flag}
+use Rattle.arbitration.proofs.Winner.{WeakOrder, by-key, converse, FirstIn, first-of, none-above, tree-first, walk-first, tree-walk}
+
+-- ---- the least core
+
+lower-order : (l : List Core) → WeakOrder (lower l)
+lower-order l = converse (by-key (λ (k : ℕ). currentPriority (getD l k noCore)))
+
+least-first : (l : List Core) (m : ℕ) → 1 ≤ m → FirstIn (lower l) 0 m (least l m)
+unfolding least
+least-first l m h = walk-first (lower l) (lower-order l) m h
+
+pub least-is-first : LeastIsFirst
+least-is-first l m h = first-of (least-first l m h)
+
+pub least-below : (l : List Core) (m : ℕ) → 1 ≤ m → least l m < m
+least-below l m h = least-is-first l m h .inside
+
+pub least-le : (l : List Core) (m k : ℕ) → k < m → currentPriority (getD l (least l m) noCore) ≤ currentPriority (getD l k noCore)
+least-le l m k h =
+    ltb-false _ _ (none-above (lower l) (lower-order l) 0 m (least l m) (least-first l m (omega arith)) k (omega arith) (omega arith))
+
+-- ---- the highest candidate
+
+higher-order : (l : List Source) → WeakOrder (higher l)
+higher-order l = by-key (λ (i : ℕ). rank (getD l i noSource))
+
+highest-first : (l : List Source) (n : ℕ) → 1 ≤ n → FirstIn (higher l) 0 n (highest l n)
+unfolding highest
+highest-first l n h = tree-first (higher l) (higher-order l) n 0 n h (omega arith)
+
+pub tree-is-walk : TreeIsWalk
+unfolding highest highestByWalk
+tree-is-walk l n = tree-walk (higher l) (higher-order l) n n (omega arith)
+
+pub tree-finds-first : TreeFindsFirst
+tree-finds-first l n h = first-of (highest-first l n h)
+
+pub highest-below : (l : List Source) (n : ℕ) → 1 ≤ n → highest l n < n
+highest-below l n h = tree-finds-first l n h .inside
+
+highest-rank-ge : (l : List Source) (n i : ℕ) → i < n → rank (getD l i noSource) ≤ rank (getD l (highest l n) noSource)
+highest-rank-ge l n i h =
+    ltb-false _ _ (none-above (higher l) (higher-order l) 0 n (highest l n) (highest-first l n (omega arith)) i (omega arith) (omega arith))
+
+-- a number kept under a flag, as a rank and an id are
+kept-on : (b : Bool) (x : ℕ) → b ≡ true → cond b (suc x) 0 ≡ suc x
+kept-on b x p = rw p
+
+kept-off : (b : Bool) (x : ℕ) → b ≡ false → cond b (suc x) 0 ≡ 0
+kept-off b x p = rw p
+
+rank-candidate : (r : Source) → candidate r ≡ true → rank r ≡ suc (r .priority)
+rank-candidate r p = kept-on (candidate r) (r .priority) p
+
+-- what is ranked at least as high as a candidate is one
+candidate-rank-le : (r t : Source) → rank r ≤ rank t → candidate r ≡ true → candidate t ≡ true
+candidate-rank-le r t h p = go (flag (candidate t))
+  where
+    go : Flag (candidate t) → candidate t ≡ true
+    go (on q) = q
+    go (off q) = absurd (omega (arith, rank-candidate r p, kept-off (candidate t) (t .priority) q))
+
+pub highest-ge : (l : List Source) (n i : ℕ) → i < n → candidate (getD l i noSource) ≡ true → (candidate (getD l (highest l n) noSource) ≡ true) × ((getD l i noSource) .priority ≤ (getD l (highest l n) noSource) .priority)
+highest-ge l n i h p =
+    let u : rank (getD l i noSource) ≤ rank (getD l (highest l n) noSource) = highest-rank-ge l n i h in
+    let q : candidate (getD l (highest l n) noSource) ≡ true = candidate-rank-le (getD l i noSource) (getD l (highest l n) noSource) u p in
+    (q, omega (arith, u, rank-candidate (getD l i noSource) p, rank-candidate (getD l (highest l n) noSource) q))
+
+-- ---- its id
+
+module _ (l : List Source) (n : ℕ) where
+  abbrev best : Source
+  best = getD l (highest l n) noSource
+
+  id-none : highestId l n ≡ 0 → candidate best ≡ false
+  unfolding highestId
+  id-none e = go (flag (candidate best))
+    where
+      go : Flag (candidate best) → candidate best ≡ false
+      go (on p) = absurd (omega (arith, e, kept-on (candidate best) (highest l n) p))
+      go (off p) = p
+
+  id-some : (w : ℕ) → highestId l n ≡ suc w → (highest l n ≡ w) × (candidate best ≡ true)
+  unfolding highestId
+  id-some w e = go (flag (candidate best))
+    where
+      go : Flag (candidate best) → (highest l n ≡ w) × (candidate best ≡ true)
+      go (on p) = (omega (arith, e, kept-on (candidate best) (highest l n) p), p)
+      go (off p) = absurd (omega (arith, e, kept-off (candidate best) (highest l n) p))
+
+  -- an id names the highest, and that is a candidate
+  by-id : (P : ℕ → Type 0) (w : ℕ) → highestId l n ≡ suc w → (candidate best ≡ true → P (highest l n)) → P w
+  by-id P w e f = subst P (id-some w e .0) (f (id-some w e .1))
+
+  none-candidate : highestId l n ≡ 0 → (i : ℕ) → i < n → candidate (getD l i noSource) ≡ false
+  none-candidate e i h = go (flag (candidate (getD l i noSource)))
+    where
+      go : Flag (candidate (getD l i noSource)) → candidate (getD l i noSource) ≡ false
+      go (on p) = clash (highest-ge l n i h p .0) (id-none e)
+      go (off p) = p
+
+  -- a candidate of a lower id is strictly below: it would have kept a tie
+  earlier-lt : 1 ≤ n → candidate best ≡ true → (i : ℕ) → i < highest l n → candidate (getD l i noSource) ≡ true → (getD l i noSource) .priority < best .priority
+  earlier-lt h q i g p =
+      let u : rank (getD l i noSource) < rank best = ltb-true _ _ (tree-finds-first l n h .before i g) in
+      omega (arith, u, rank-candidate (getD l i noSource) p, rank-candidate best q)
+
+pub highest-id-exact : HighestIdExact
+highest-id-exact l n h =
+    record {
+      none = none-candidate l n;
+      inside = λ w e. by-id l n (λ (x : ℕ). (x < n) × (candidate (getD l x noSource) ≡ true)) w e (λ q. (highest-below l n h, q));
+      highest = λ w i e g p.
+          by-id l n (λ (x : ℕ). (getD l i noSource) .priority ≤ (getD l x noSource) .priority) w e (λ q. highest-ge l n i g p .1);
+      lowest-id = λ w i e g p.
+          by-id l n (λ (x : ℕ). i < x → (getD l i noSource) .priority < (getD l x noSource) .priority) w e
+          (λ q v. earlier-lt l n h q i v p) g;
+    }
