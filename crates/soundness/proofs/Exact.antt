@@ -1,0 +1,67 @@
+-- A test and the fact that it computes, and how a compound test's fact comes from its parts'. Assumes nothing.
+--   Exact b P                 the test b succeeds exactly when P holds
+--   x and y                   both tests
+--   unless-exact, implies-exact, from-exact    a test under a condition: `a || b`, `not a || b`, `ltb i n || b`
+--   every-exact               a test at each number below a bound
+use Prim.Native.Nat.{ℕ, _<_, _≤_}
+use mathlib.Core.Path.{_≡_, refl}
+use mathlib.Core.Logic.{_↔_}
+use mathlib.Core.Bool.{Bool, true, false, not, _&&_, _||_}
+use lib.Dec.{ltb, leb, eqb}
+use borrow.Author.Tests.{ltb-true, ltb-false, leb-true, eqb-true, lt-ltb, le-ltb, le-leb, eq-eqb}
+use Rattle.model.specs.Walks.{every}
+use Rattle.model.specs.WellFormed.{between}
+use Rattle.model.proofs.Bools.{and-in, and-l, and-r, not-in, not-out, clash, Flag, on, off, flag}
+use Rattle.model.proofs.Walks.{every-out, every-in}
+
+infixl 35 _and_
+abbrev pub Exact : Bool → Type 0 → Type 0
+Exact b P = (b ≡ true) ↔ P
+
+-- ---- single tests
+
+pub flag-exact : (a : Bool) → Exact a (a ≡ true)
+flag-exact a = (λ e. e, λ e. e)
+
+pub not-exact : (a : Bool) → Exact (not a) (a ≡ false)
+not-exact a = (not-out a, not-in)
+
+pub leb-exact : (a b : ℕ) → Exact (leb a b) (a ≤ b)
+leb-exact a b = (leb-true a b, le-leb a b)
+
+pub ltb-exact : (a b : ℕ) → Exact (ltb a b) (a < b)
+ltb-exact a b = (ltb-true a b, lt-ltb a b)
+
+pub eqb-exact : (a b : ℕ) → Exact (eqb a b) (a ≡ b)
+eqb-exact a b = (eqb-true a b, eq-eqb a b)
+
+-- ---- compound tests
+
+pub _and_ : {a b : Bool} {A B : Type 0} → Exact a A → Exact b B → Exact (a && b) (A × B)
+_and_ {a} {b} x y = (λ e. (x .0 (and-l a b e), y .0 (and-r a b e)), λ p. and-in (x .1 (p .0)) (y .1 (p .1)))
+
+pub between-exact : (low high x : ℕ) → Exact (between low high x) ((low ≤ x) × (x ≤ high))
+between-exact low high x = leb-exact low x and leb-exact x high
+
+pub refuted-exact : {b : Bool} {B : Type 0} → Exact b B → Exact (not b) (¬ B)
+refuted-exact {b} {B} y = (λ e p. clash (y .1 p) (not-out b e), λ r. go (flag b) r)
+  where
+    go : Flag b → ¬ B → not b ≡ true
+    go (on p) r = absurd (r (y .0 p))
+    go (off p) r = not-in p
+
+pub unless-exact : (a : Bool) {b : Bool} {B : Type 0} → Exact b B → Exact (a || b) (a ≡ false → B)
+unless-exact true y = (λ e p. clash refl p, λ h. refl)
+unless-exact false y = (λ e p. y .0 e, λ h. y .1 (h refl))
+
+pub implies-exact : (a : Bool) {b : Bool} {B : Type 0} → Exact b B → Exact (not a || b) (a ≡ true → B)
+implies-exact true y = (λ e p. y .0 e, λ h. y .1 (h refl))
+implies-exact false y = (λ e p. clash p refl, λ h. refl)
+
+-- at the numbers from n on
+pub from-exact : (i n : ℕ) {b : Bool} {B : Type 0} → Exact b B → Exact (ltb i n || b) (n ≤ i → B)
+from-exact i n y =
+    let x = unless-exact (ltb i n) y in (λ e h. x .0 e (le-ltb i n h), λ h. x .1 (λ e. h (ltb-false i n e)))
+
+pub every-exact : (n : ℕ) {f : ℕ → Bool} {P : ℕ → Type 0} → ((i : ℕ) → Exact (f i) (P i)) → Exact (every n f) ((i : ℕ) → i < n → P i)
+every-exact n {f} x = (λ e i h. x i .0 (every-out n f e i h), λ p. every-in n f (λ i h. x i .1 (p i h)))
