@@ -1,0 +1,55 @@
+-- When a delivery takes place: what arbitration has found of source i + 1 and core k, and what follows at once. Assumes nothing.
+--   Arbitrated s i k       source i + 1 is a candidate strictly above core k, whose current priority is least
+--   CandidateBefore s k j  what a candidate j after the delivery was: a candidate, or the request in core k's box
+use Prim.Native.Nat.{ℕ, _<_, _≤_}
+use mathlib.Core.Path.{_≡_}
+use mathlib.Core.Bool.{true, false, not}
+use lib.ListN.{length}
+use native.Mathlib.Omega.{arith}
+use Rattle.model.specs.declared.Controller.{Controller}
+use Rattle.model.specs.Records.{sourceAt, coreAt}
+use Rattle.model.specs.Requests.{currentPriority, waiting, candidate}
+use Rattle.model.proofs.Bools.{and-l, and-r, not-out, clash, Flag, on, off, flag}
+use Rattle.settling.specs.Phases.{Consistent, Delivering}
+use Rattle.settling.proofs.Writes.{Names}
+
+pub record Arbitrated (s : Controller) (i k : ℕ) : Type 0 where
+  pub consistent : Consistent s
+  pub delivering : Delivering s
+  pub source-in : i < s .n
+  pub is-candidate : candidate (sourceAt s i) ≡ true
+  pub core-in : k < s .m
+  pub least : (j : ℕ) → j < s .m → currentPriority (coreAt s k) ≤ currentPriority (coreAt s j)
+  pub above : currentPriority (coreAt s k) < (sourceAt s i) .priority
+
+pub data CandidateBefore (s : Controller) (k j : ℕ) : Type 0 where
+  stayed : candidate (sourceAt s j) ≡ true → CandidateBefore s k j
+  evicted : (sourceAt s j) .priority ≡ currentPriority (coreAt s k) → CandidateBefore s k j
+
+module _ {s : Controller} {i k : ℕ} (a : Arbitrated s i k) where
+  pub index-in : i < length (s .sources)
+  index-in = omega (arith, a .consistent .sources-length)
+
+  pub number-in : k < length (s .cores)
+  number-in = omega (arith, a .consistent .cores-length)
+
+  is-waiting : waiting (sourceAt s i) ≡ true
+  is-waiting = and-l (waiting (sourceAt s i)) (not ((sourceAt s i) .masked)) (a .is-candidate)
+
+  pub was-pending : (sourceAt s i) .pending ≡ true
+  was-pending = and-l ((sourceAt s i) .pending) (not ((sourceAt s i) .delivered)) is-waiting
+
+  pub was-undelivered : (sourceAt s i) .delivered ≡ false
+  was-undelivered =
+      not-out ((sourceAt s i) .delivered) (and-r ((sourceAt s i) .pending) (not ((sourceAt s i) .delivered)) is-waiting)
+
+  -- no box holds the candidate
+  pub not-held : (j : ℕ) → j < s .m → ¬ (Names ((coreAt s j) .message) i)
+  not-held j h n = clash (a .consistent .backed j h (n .0) .delivered) (rw (← n .1) was-undelivered)
+
+  pub configured-le-current : (coreAt s k) .configured ≤ currentPriority (coreAt s k)
+  configured-le-current = go (flag ((coreAt s k) .message .filled))
+    where
+      go : Flag ((coreAt s k) .message .filled) → (coreAt s k) .configured ≤ currentPriority (coreAt s k)
+      go (on f) = rw f (omega (arith, a .consistent .backed k (a .core-in) f .above (a .delivering .clean k (a .core-in))))
+      go (off f) = rw f (omega arith)

@@ -1,0 +1,118 @@
+-- What the next cycle does, and why: the case that `next s` is in. Assumes nothing.
+--   Next s         at rest, a retraction of a dirty box, or a delivery of a highest candidate to a least core
+--   next-cases s   one of the three
+use Prim.Native.Nat.{ℕ, zero, suc, _<_, _≤_}
+use mathlib.Core.Path.{_≡_, refl}
+use mathlib.Core.List.{List}
+use mathlib.Core.Bool.{Bool, true, false}
+use lib.ListN.{getD}
+use borrow.Author.Tests.{ltb-true, lt-ltb, le-ltb}
+use native.Mathlib.Omega.{arith}
+use native.Mathlib.Decide.{decLt}
+use Rattle.model.specs.declared.Core.{Core}
+use Rattle.model.specs.declared.Controller.{Controller}
+use Rattle.model.specs.declared.Cycle.the-variants.{Rest, Retract, Deliver}
+use Rattle.model.specs.Records.{noCore, sourceId, coreId, sourceAt, coreAt}
+use Rattle.model.specs.Requests.{currentPriority, candidate}
+use Rattle.model.specs.Arbitration.{highest, least}
+use Rattle.model.specs.Settling.{firstDirty, interruptedBy, arbitrate, next}
+use Rattle.arbitration.proofs.Tree.{least-below, least-le, highest-below, highest-ge}
+use Rattle.model.proofs.Bools.{and-in, and-l, and-r, Flag, on, off, flag, clash}
+
+abbrev dirtyAt : List Core → ℕ → Bool
+dirtyAt l k = (getD l k noCore) .message .dirty
+
+-- No box of the first m is dirty.
+abbrev pub Clean : List Core → ℕ → Type 0
+Clean l m = (k : ℕ) → k < m → dirtyAt l k ≡ false
+
+-- ---- the first dirty box
+
+module _ (l : List Core) where
+  clean-suc : (j : ℕ) → Clean l j → dirtyAt l j ≡ false → Clean l (suc j)
+  clean-suc j c e k p = go (decLt k j)
+    where
+      go : Dec (k < j) → dirtyAt l k ≡ false
+      go (yes q) = c k q
+      go (no q) = let same : j ≡ k = omega arith in rw same at e
+
+  data First (m w : ℕ) : Type 0 where
+    found : w < m → dirtyAt l w ≡ true → Clean l w → First m w
+    missed : w ≡ m → Clean l m → First m w
+
+  first-cases : (m : ℕ) → First m (firstDirty l m)
+  unfolding firstDirty
+  first-cases zero = missed refl (λ k p. absurd (omega arith))
+  first-cases (suc j) = go (first-cases j) (flag (dirtyAt l j))
+    where
+      go : First j (firstDirty l j) → Flag (dirtyAt l j) → First (suc j) (firstDirty l (suc j))
+      go (found p e c) f = rw (lt-ltb (firstDirty l j) j p) (found (omega arith) e c)
+      go (missed p c) (on e) = rw (le-ltb (firstDirty l j) j (omega arith), e) (found (omega arith) e c)
+      go (missed p c) (off e) = rw (le-ltb (firstDirty l j) j (omega arith), e) (missed refl (clean-suc j c e))
+
+-- ---- the three cases
+
+-- Source i + 1 offers a highest request, core k is one of the least, and the request is above it.
+pub record Contest (s : Controller) (i k : ℕ) : Type 0 where
+  pub source-in : i < s .n
+  pub is-candidate : candidate (sourceAt s i) ≡ true
+  pub highest : (j : ℕ) → j < s .n → candidate (sourceAt s j) ≡ true → (sourceAt s j) .priority ≤ (sourceAt s i) .priority
+  pub core-in : k < s .m
+  pub least : (j : ℕ) → j < s .m → currentPriority (coreAt s k) ≤ currentPriority (coreAt s j)
+  pub above : currentPriority (coreAt s k) < (sourceAt s i) .priority
+
+-- No candidate is above any core's current priority.
+abbrev pub Settled : Controller → Type 0
+Settled s = (i k : ℕ) → i < s .n → k < s .m → candidate (sourceAt s i) ≡ true → (sourceAt s i) .priority ≤ currentPriority (coreAt s k)
+
+pub data Next (s : Controller) : Type 0 where
+  resting : next s ≡ Rest → Clean (s .cores) (s .m) → Settled s → Next s
+  retracting : (k : ℕ) → next s ≡ Retract (coreId k) → k < s .m → dirtyAt (s .cores) k ≡ true → Next s
+  arbitrating : (i k : ℕ) → next s ≡ Deliver (sourceId (suc i)) (coreId k) → Clean (s .cores) (s .m) → Contest s i k → Next s
+
+abbrev topSource : Controller → ℕ
+topSource s = highest (s .sources) (s .n)
+
+abbrev lowCore : Controller → ℕ
+lowCore s = least (s .cores) (s .m)
+
+abbrev interrupts : Controller → Bool
+interrupts s = interruptedBy (coreAt s (lowCore s)) (sourceAt s (topSource s))
+
+module _ (s : Controller) (some-source : 1 ≤ s .n) (some-core : 1 ≤ s .m) where
+  contest : interrupts s ≡ true → Contest s (topSource s) (lowCore s)
+  contest e =
+      record {
+        source-in = highest-below (s .sources) (s .n) some-source;
+        is-candidate = and-l (candidate (sourceAt s (topSource s))) _ e;
+        highest = λ j p q. (highest-ge (s .sources) (s .n) j p q) .1;
+        core-in = least-below (s .cores) (s .m) some-core;
+        least = least-le (s .cores) (s .m);
+        above = ltb-true _ _ (and-r (candidate (sourceAt s (topSource s))) _ e);
+      }
+
+  settled : interrupts s ≡ false → Settled s
+  settled e i k p q c = go (decLt low high) (highest-ge (s .sources) (s .n) i p c)
+    where
+      low : ℕ
+      low = currentPriority (coreAt s (lowCore s))
+
+      high : ℕ
+      high = (sourceAt s (topSource s)) .priority
+
+      go : Dec (low < high) → (candidate (sourceAt s (topSource s)) ≡ true) × ((sourceAt s i) .priority ≤ high) → (sourceAt s i) .priority ≤ currentPriority (coreAt s k)
+      go (yes u) h = clash (and-in (h .0) (lt-ltb low high u)) e
+      go (no u) h = omega (arith, h .1, least-le (s .cores) (s .m) k q)
+
+  pub next-cases : Next s
+  unfolding next arbitrate
+  next-cases = go (first-cases (s .cores) (s .m)) (flag (interrupts s))
+    where
+      w : ℕ
+      w = firstDirty (s .cores) (s .m)
+
+      go : First (s .cores) (s .m) w → Flag (interrupts s) → Next s
+      go (found p e c) f = retracting w (rw (lt-ltb w (s .m) p)) p e
+      go (missed p c) (on e) =
+          arbitrating (topSource s) (lowCore s) (rw (le-ltb w (s .m) (omega arith), e)) c (contest e)
+      go (missed p c) (off e) = resting (rw (le-ltb w (s .m) (omega arith), e)) c (settled e)
