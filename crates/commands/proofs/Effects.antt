@@ -1,0 +1,120 @@
+-- After an accepted command and before its settling: the state is consistent and in one of settling's two phases. Assumes nothing.
+--   effect-n, effect-m    the sizes stay
+--   effect-consistent     from a sound state
+--   effect-phase          set core priority leaves every filled box dirty; the other commands leave none dirty
+use Prim.Native.Nat.{ℕ, _<_}
+use mathlib.Core.Path.{_≡_, refl}
+use mathlib.Core.Bool.{Bool, true, false}
+use Rattle.model.specs.declared.SourceId.{SourceId}
+use Rattle.model.specs.declared.Source.{Source}
+use Rattle.model.specs.declared.Core.{Core}
+use Rattle.model.specs.declared.Controller.{Controller}
+use Rattle.model.specs.declared.Command.{Command}
+use Rattle.model.specs.declared.Command.the-variants.{SetSourcePriority, Mask, Unmask, SetCorePriority, Trigger, Claim, Redeliver, Complete}
+use Rattle.model.specs.Records.{indexOf, sourceAt, coreAt, withSource, withMask}
+use Rattle.model.specs.WellFormed.{Backed, WellFormed}
+use Rattle.model.specs.Commands.{effect, refusalOf}
+use Rattle.settling.specs.Phases.{Holding, Consistent, Delivering, Phase, retracting, delivering}
+use Rattle.commands.proofs.Checked.{Named, named-index, Checked, checked}
+use Rattle.commands.proofs.SourceEffects.{Replaces, withSource-consistent, set-replaces, opened-replaces, redelivered-replaces, ended-replaces}
+use Rattle.commands.proofs.CoreEffects.{withCores-consistent, claimedCores, claimed-recored, claimed-delivering, setCores, set-recored, set-allDirty}
+
+sizes : (s : Controller) (o : Command) → ((effect s o) .n ≡ s .n) × ((effect s o) .m ≡ s .m)
+unfolding effect
+sizes s (SetSourcePriority id p) = (refl, refl)
+sizes s (Mask id) = (refl, refl)
+sizes s (Unmask id) = (refl, refl)
+sizes s (SetCorePriority k p) = (refl, refl)
+sizes s (Trigger id) = (refl, refl)
+sizes s (Claim k) = (refl, refl)
+sizes s (Redeliver id) = (refl, refl)
+sizes s (Complete id) = (refl, refl)
+
+module _ (s : Controller) (o : Command) where
+  pub effect-n : (effect s o) .n ≡ s .n
+  effect-n = (sizes s o) .0
+
+  pub effect-m : (effect s o) .m ≡ s .m
+  effect-m = (sizes s o) .1
+
+-- ---- a sound state, as settling sees it
+
+module _ (s : Controller) (w : WellFormed s) where
+  wellFormed-holding : (c : Core) → Backed s c → Holding s c
+  wellFormed-holding c b =
+      record {
+        some-id = b .some-id;
+        id-le = b .id-le;
+        pending = b .pending;
+        delivered = b .delivered;
+        same-priority = b .same-priority;
+        above = λ e. b .above;
+      }
+
+  pub wellFormed-consistent : Consistent s
+  wellFormed-consistent =
+      record {
+        some-source = w .some-source;
+        n-le = w .n-le;
+        some-core = w .some-core;
+        m-le = w .m-le;
+        sources-length = w .sources-length;
+        cores-length = w .cores-length;
+        configured-source = w .configured-source;
+        request-range = w .request-range;
+        idle-source = w .idle-source;
+        configured-core = w .configured-core;
+        empty-box = w .empty-box;
+        spare-source = w .spare-source;
+        spare-core = w .spare-core;
+        backed = λ k h f. wellFormed-holding (coreAt s k) (w .backed k h f);
+        distinct = w .distinct;
+      }
+
+  pub wellFormed-delivering : Delivering s
+  wellFormed-delivering = record { clean = w .clean; covered = w .covered-settled }
+
+-- ---- the effects
+
+abbrev Begun : Controller → Type 0
+Begun s = Consistent s × Phase s
+
+module _ (s : Controller) (w : WellFormed s) where
+  old : Consistent s
+  old = wellFormed-consistent s w
+
+  -- a write of one source leaves the cores alone
+  source-begun : (id : SourceId) {r : Source} → Named s id → (indexOf id < s .n → Replaces s (indexOf id) r) → Begun (withSource s (indexOf id) r)
+  source-begun id {r} h fit =
+      let i-lt : indexOf id < s .n = named-index s id h in
+      (withSource-consistent s old (indexOf id) i-lt r (fit i-lt), delivering (record { clean = w .clean; covered = w .covered-settled }))
+
+  mask-begun : (id : SourceId) (b : Bool) → Named s id → Begun (withSource s (indexOf id) (withMask b (sourceAt s (indexOf id))))
+  mask-begun id b h =
+      let i : ℕ = indexOf id in
+      source-begun id h (λ l. set-replaces s old i l ((sourceAt s i) .configured) b (w .configured-source i l))
+
+  begun : (o : Command) → Checked s o → Begun (effect s o)
+  unfolding effect
+  begun (SetSourcePriority id p) (h, range) =
+      let i : ℕ = indexOf id in
+      source-begun id h (λ l. set-replaces s old i l p ((sourceAt s i) .masked) range)
+  begun (Mask id) h = mask-begun id true h
+  begun (Unmask id) h = mask-begun id false h
+  begun (SetCorePriority k p) (h, range) = (
+    withCores-consistent s old (setCores s (k .0) p) (set-recored s old (k .0) h p range),
+    retracting (set-allDirty s old (k .0) h p range),
+  )
+  begun (Trigger id) (h, idle) = source-begun id h (λ l. opened-replaces s old (indexOf id) l idle)
+  begun (Claim k) (h, filled) = (
+    withCores-consistent s old (claimedCores s (k .0)) (claimed-recored s old (k .0) h filled),
+    delivering (claimed-delivering s old (k .0) h filled (wellFormed-delivering s w)),
+  )
+  begun (Redeliver id) (h, taken) = source-begun id h (λ l. redelivered-replaces s old (indexOf id) l taken)
+  begun (Complete id) (h, taken) = source-begun id h (λ l. ended-replaces s old (indexOf id) l taken)
+
+pub effect-consistent : (s : Controller) (o : Command) → WellFormed s → refusalOf s o ≡ 0 → Consistent (effect s o)
+effect-consistent s o w e = (begun s w o (checked s o e)) .0
+
+pub effect-phase : (s : Controller) (o : Command) → WellFormed s → refusalOf s o ≡ 0 → Phase (effect s o)
+effect-phase s o w e = (begun s w o (checked s o e)) .1
