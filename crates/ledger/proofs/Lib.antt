@@ -1,1 +1,11 @@
 -- What is proved here, for the crates above.
+pub mod Counting
+pub mod Sorting
+pub mod Placements
+pub mod Filled
+pub mod Strict
+pub mod Writes
+pub mod SourceMatching
+pub mod CoreMatching
+pub mod Matching
+pub mod Theorem

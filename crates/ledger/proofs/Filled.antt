@@ -1,0 +1,111 @@
+-- The filled boxes of a sound state that the ledger matches are a placement, and give each core its current priority. Assumes nothing.
+--   Held              what the filled box of core k says of the ledger
+--   unboxed-waits     an open request in no box waits, at the priority of the ledger
+use Prim.Native.Nat.{ℕ, zero, suc, _≤_, _<_}
+use mathlib.Core.Path.{_≡_, refl, sym}
+use mathlib.Core.Bool.{Bool, true, false, cond, _&&_, not, true≢false}
+use native.Mathlib.Omega.{arith}
+use borrow.Author.Tests.{lt-ltb}
+use Rattle.model.specs.declared.Controller.{Controller}
+use Rattle.model.specs.Records.{sourceAt, coreAt}
+use Rattle.model.specs.Requests.{currentPriority, waiting, boxed, claimed}
+use Rattle.model.specs.WellFormed.{WellFormed, Backed}
+use Rattle.model.specs.Ledger.{Ledger, noRequest, openRequest, claimedRequest, priorityOf, isOpen, competes, requestPriority, Placement, given, inBoxes}
+use Rattle.model.proofs.Bools.{or-in-l, Flag, on, off, flag}
+use Rattle.model.proofs.Boxes.{holds-in, boxed-in}
+use Rattle.ledger.specs.Matches.{requestOf, Matches}
+use Rattle.ledger.proofs.Placements.{competes-in}
+
+-- ---- the request of a source, by its flags
+
+open-priority :
+    (pending c : Bool) (p : ℕ) → isOpen (cond pending (cond c (claimedRequest p) (openRequest p)) noRequest) ≡ true →
+    priorityOf (cond pending (cond c (claimedRequest p) (openRequest p)) noRequest) ≡ p
+open-priority true true p e = refl
+open-priority true false p e = refl
+open-priority false c p e = absurd (true≢false (sym e))
+
+open-waits :
+    (pending delivered : Bool) (p : ℕ) →
+    isOpen (cond pending (cond (pending && delivered && true) (claimedRequest p) (openRequest p)) noRequest) ≡ true →
+    pending && not delivered ≡ true
+open-waits true true p e = e
+open-waits true false p e = refl
+open-waits false d p e = e
+
+-- a box that names a source is filled
+names-filled : (f : Bool) (id : ℕ) → 1 ≤ cond f id 0 → f ≡ true
+names-filled true id p = refl
+names-filled false id p = absurd (omega arith)
+
+-- ---- boxes
+
+-- Its source has id i + 1.
+record Held (b : Ledger) (s : Controller) (k : ℕ) : Type 0 where
+  i : ℕ
+  named : (coreAt s k) .message .source .0 ≡ suc i
+  below : i < s .n
+  inside : boxed (s .cores) (s .m) (suc i) ≡ true
+  request : b .request (suc i) ≡ openRequest ((coreAt s k) .message .priority)
+  above : (coreAt s k) .configured < (coreAt s k) .message .priority
+
+module _ (b : Ledger) (s : Controller) (w : WellFormed s) (match : Matches (s .n) (s .m) b s) where
+  pub unboxed-waits :
+      (i : ℕ) → i < s .n → isOpen (b .request (suc i)) ≡ true → boxed (s .cores) (s .m) (suc i) ≡ false →
+      (waiting (sourceAt s i) ≡ true) × (requestPriority b (suc i) ≡ (sourceAt s i) .priority)
+  unboxed-waits i p o e =
+      let r : isOpen (requestOf s i) ≡ true = rw (match .request i p) at o in (
+        open-waits ((sourceAt s i) .pending) ((sourceAt s i) .delivered) ((sourceAt s i) .priority) (rw e at r),
+        rw (match .request i p) (open-priority ((sourceAt s i) .pending) (claimed s i) ((sourceAt s i) .priority) r),
+      )
+
+  held : (k : ℕ) → k < s .m → (coreAt s k) .message .filled ≡ true → Held b s k
+  held k below f = go ((coreAt s k) .message .source .0) refl (w .backed k below f)
+    where
+      go : (id : ℕ) → (coreAt s k) .message .source .0 ≡ id → Backed s (coreAt s k) → Held b s k
+      go zero e c = absurd (omega arith)
+      go (suc i) e c = record { i = i; named = e; below = p; inside = q; request = r; above = c .above }
+        where
+          p : i < s .n
+          p = omega arith
+
+          q : boxed (s .cores) (s .m) (suc i) ≡ true
+          q = boxed-in (s .cores) (s .m) (suc i) k below (holds-in (suc i) (coreAt s k) f e)
+
+          r : b .request (suc i) ≡ openRequest ((coreAt s k) .message .priority)
+          r = rw (match .request i p, rw e at (c .pending), rw e at (c .delivered), q, rw e at (c .same-priority))
+
+  pub current-given : (k : ℕ) → k < s .m → currentPriority (coreAt s k) ≡ given b (inBoxes s) k
+  current-given k below = go (flag ((coreAt s k) .message .filled))
+    where
+      go : Flag ((coreAt s k) .message .filled) → currentPriority (coreAt s k) ≡ given b (inBoxes s) k
+      go (on f) = let h : Held b s k = held k below f in rw (f, h .named, lt-ltb 0 (suc (h .i)) (omega arith), h .request)
+      go (off f) = rw (f, match .core k below)
+
+  pub box-priority :
+      (k : ℕ) → k < s .m → (coreAt s k) .message .filled ≡ true →
+      (1 ≤ (coreAt s k) .message .source .0) × ((coreAt s k) .message .priority ≡ requestPriority b ((coreAt s k) .message .source .0))
+  box-priority k below f = let h : Held b s k = held k below f in rw (h .named, h .request) (omega arith, refl)
+
+  filled : (k : ℕ) → 1 ≤ inBoxes s k → (coreAt s k) .message .filled ≡ true
+  filled k p = names-filled ((coreAt s k) .message .filled) ((coreAt s k) .message .source .0) p
+
+  pub boxes-placed : Placement (s .n) (s .m) b s (inBoxes s)
+  boxes-placed = record { placed = placed; above = above; once = once }
+    where
+      placed : (k : ℕ) → k < s .m → 1 ≤ inBoxes s k → competes (s .n) (s .m) b s (inBoxes s k) ≡ true
+      placed k below p =
+          let h : Held b s k = held k below (filled k p) in
+          rw (filled k p, h .named)
+          (competes-in (s .n) (s .m) b s (suc (h .i))
+          (record { some-id = omega arith; id-le = h .below; is-open = rw (h .request); placed = or-in-l (not (b .masked (suc (h .i)))) (h .inside) }))
+
+      above : (k : ℕ) → k < s .m → 1 ≤ inBoxes s k → b .core k < requestPriority b (inBoxes s k)
+      above k below p =
+          let h : Held b s k = held k below (filled k p) in
+          rw (filled k p, h .named, h .request, match .core k below) (h .above)
+
+      once : (j k : ℕ) → j < s .m → k < s .m → 1 ≤ inBoxes s j → inBoxes s j ≡ inBoxes s k → j ≡ k
+      once j k x y p e =
+          let q : 1 ≤ inBoxes s k = omega arith in
+          w .distinct j k x y (filled j p) (filled k q) (rw (filled j p, filled k q) at e)
