@@ -3,4 +3,5 @@ pub mod Bools
 pub mod Walks
 pub mod Boxes
 pub mod Priorities
+pub mod Candidates
 pub mod Examples

@@ -1,9 +1,10 @@
 -- The priority field's width: the floor of the logarithm is exact, and document 01's four top priorities. Assumes nothing.
-use Prim.Native.Nat.{ℕ, suc, _+_, _-_, _^_, _<_, _≤_}
-use mathlib.Core.Path.{_≡_, refl, subst}
+use Prim.Native.Nat.{ℕ, zero, suc, _+_, _-_, _*_, _^_, _%_, _<_, _≤_}
+use mathlib.Core.Path.{_≡_, refl, ap, subst, _∙_}
 use native.Mathlib.Omega.{arith}
 use native.Mathlib.Numerals.{add-one}
-use lib.Count.{leadingZeros, leading-top}
+use native.Mathlib.Nat.{mod-eq-of-lt, pow-le-pow-right, one-mul}
+use lib.Count.{leadingZeros, leading-top, leading-le}
 use Rattle.model.specs.Priorities.{floorLog2, priorityWidth, topPriority}
 use Rattle.model.specs.Statements.{FloorLog2Exact, TopPriorityValues}
 
@@ -17,3 +18,36 @@ floor-log2-exact n h g =
 pub top-priority-values : TopPriorityValues
 unfolding leadingZeros floorLog2 priorityWidth topPriority
 top-priority-values = (refl, refl, refl, refl)
+
+-- ---- the top priority by a shift of 32 binary digits, from the leading zeros z of n
+
+shifted : ℕ → ℕ
+shifted z = 1 * 2 ^ (17 - z) % 2 ^ 32
+
+shifted-is : (z : ℕ) → shifted z ≡ 2 ^ (17 - z)
+unfolding shifted
+shifted-is z =
+    let k : ℕ = 17 - z in
+    let h : 2 ^ k ≤ 2 ^ 17 = pow-le-pow-right {n = 2} (omega arith) {i = k} {j = 17} (omega arith) in
+    let g : 2 ^ k < 2 ^ 32 = omega arith in
+    ap (λ (x : ℕ). x % 2 ^ 32) (one-mul (2 ^ k)) ∙ mod-eq-of-lt g
+
+pub shift-positive : (z : ℕ) → 1 ≤ 1 * 2 ^ (17 - z) % 2 ^ 32
+unfolding shifted
+shift-positive z =
+    let h : 2 ^ 0 ≤ 2 ^ (17 - z) = pow-le-pow-right {n = 2} (omega arith) {i = 0} {j = 17 - z} (omega arith) in
+    omega (arith, shifted-is z)
+
+pub zeros-le : (n : ℕ) → leadingZeros 16 n ≤ 17
+zeros-le n = omega (arith, leading-le 16 n)
+
+pub top-none : (n : ℕ) → n ≡ 0 → 3 ≡ topPriority n
+unfolding leadingZeros floorLog2 priorityWidth topPriority
+top-none n e = rw e
+
+pub top-shifted : (n : ℕ) → 1 ≤ n → n < 2 ^ 16 → 1 * 2 ^ (17 - leadingZeros 16 n) % 2 ^ 32 - 1 ≡ topPriority n
+unfolding floorLog2 priorityWidth topPriority shifted
+top-shifted n h g =
+    let top = leading-top 16 n h g in
+    let e : 17 - leadingZeros 16 n ≡ 15 - leadingZeros 16 n + 2 = omega (arith, top .1) in
+    ap (λ (x : ℕ). x - 1) (shifted-is (leadingZeros 16 n)) ∙ ap (λ (k : ℕ). 2 ^ k - 1) e

@@ -1,6 +1,18 @@
-// The records of the interrupt controller, by value. They carry no code: what they mean is said in specs/.
+// The records of the interrupt controller, by value, and what is read off one record. What they mean is said in specs/.
 // Document 01, "The controller and its sources" and "What is held".
 // Widths: ids, core numbers and priorities are u16, so that up to 1,023 sources with priorities up to 2,047 fit.
+
+ghost use mathlib.Core.Path.{_≡_};
+ghost use Rattle.model.specs.Records.{emptyBox, holding, coreWith, resetSource, reset as resetOf};
+ghost use Rattle.model.specs.Priorities.{topPriority};
+ghost use Rattle.model.specs.Requests.{currentPriority, candidate};
+ghost use Rattle.model.specs.Arbitration.{rank as rankOf};
+ghost use Rattle.model.specs.Commands.{claimedCore};
+
+// The largest sizes: n is 1 to 128, m is 1 to 32.
+pub const SOURCES: usize = 128;
+
+pub const CORES: usize = 32;
 
 // A source's id, 1 to n; 0 means none. Never a core number.
 pub struct SourceId(pub u16);
@@ -39,8 +51,8 @@ pub struct Core {
 pub struct Controller {
     pub n: u16,
     pub m: u16,
-    pub sources: [Source; 128],
-    pub cores: [Core; 32],
+    pub sources: [Source; SOURCES],
+    pub cores: [Core; CORES],
 }
 
 // The eight commands, in the order of document 01's numbers 0 to 7 for them.
@@ -71,4 +83,122 @@ pub enum Cycle {
     Retract(CoreId),
     // the source's request goes into the core's box
     Deliver(SourceId, CoreId),
+}
+
+// ---- the records' values. Every literal of a state record in code stands here.
+
+pub fn empty_box() -> MessageBox
+    ensures { λ r. ⌜ r ≡ emptyBox ⌝ }
+{
+    MessageBox {
+        filled: false,
+        dirty: false,
+        source: SourceId(0),
+        priority: 0,
+    }
+}
+
+// The core with its box emptied.
+pub fn emptied(c: Core) -> Core
+    ensures { λ r. ⌜ r ≡ coreWith (c .configured) emptyBox ⌝ }
+{
+    Core {
+        configured: c.configured,
+        message: empty_box(),
+    }
+}
+
+// The core with a request in its box.
+pub fn filled_with(c: Core, id: SourceId, p: u16) -> Core
+    ensures { λ r. ⌜ r ≡ coreWith (c .configured) (holding id p) ⌝ }
+{
+    Core {
+        configured: c.configured,
+        message: MessageBox {
+            filled: true,
+            dirty: false,
+            source: id,
+            priority: p,
+        },
+    }
+}
+
+// The core raised to its box's priority, and the box emptied.
+pub fn claimed_core(c: Core) -> Core
+    ensures { λ r. ⌜ r ≡ claimedCore c ⌝ }
+{
+    Core {
+        configured: c.message.priority,
+        message: empty_box(),
+    }
+}
+
+// Document 01: "fresh". Any sizes; who asks for a controller checks them first.
+pub fn reset(n: u16, m: u16) -> Controller
+    ensures { λ r. ⌜ r ≡ resetOf n m ⌝ }
+{
+    let source = Source {
+        configured: 1,
+        masked: true,
+        pending: false,
+        delivered: false,
+        priority: 0,
+    };
+    let core = Core {
+        configured: 0,
+        message: empty_box(),
+    };
+    Controller {
+        n,
+        m,
+        sources: [source; SOURCES],
+        cores: [core; CORES],
+    }
+}
+
+// ---- what is read off one record
+
+// The top priority, 2^(floor(log2 n) + 2) - 1, from the leading zeros of n.
+pub fn top_priority(n: u16) -> u32
+    ensures { λ r. ⌜ r ≡ topPriority n ⌝ }
+{
+    if n == 0 {
+        return 3;
+    }
+    let width = 17 - u16::leading_zeros(n);
+    (1u32 << width) - 1
+}
+
+// The box's priority if the box is filled, else the configured one.
+pub fn current_priority(c: Core) -> u16
+    ensures { λ r. ⌜ r ≡ currentPriority c ⌝ }
+{
+    if c.message.filled {
+        c.message.priority
+    } else {
+        c.configured
+    }
+}
+
+// Pending, not delivered, not masked.
+pub fn is_candidate(r: Source) -> bool
+    ensures { λ b. ⌜ b ≡ candidate r ⌝ }
+{
+    if r.delivered {
+        return false;
+    }
+    if r.masked {
+        return false;
+    }
+    r.pending
+}
+
+// What the comparator compares: 0 for no candidate, else one more than the request's priority.
+pub fn rank(r: Source) -> u32
+    ensures { λ k. ⌜ k ≡ rankOf r ⌝ }
+{
+    if is_candidate(r) {
+        return r.priority as u32 + 1;
+    }
+    0
 }

@@ -1,0 +1,24 @@
+-- When a source is a candidate, read off its flags one at a time. Assumes nothing.
+use Prim.Native.Nat.{suc, _+_}
+use mathlib.Core.Path.{_≡_, refl}
+use mathlib.Core.Bool.{true, false, and-false, and-true}
+use native.Mathlib.Numerals.{add-one}
+use Rattle.model.specs.declared.Source.{Source}
+use Rattle.model.specs.Requests.{candidate}
+use Rattle.model.specs.Arbitration.{rank}
+
+module _ (r : Source) where
+  pub delivered-no-candidate : r .delivered ≡ true → false ≡ candidate r
+  delivered-no-candidate e = simp (e, and-false)
+
+  pub masked-no-candidate : r .masked ≡ true → false ≡ candidate r
+  masked-no-candidate e = simp (e, and-false)
+
+  pub pending-candidate : r .delivered ≡ false → r .masked ≡ false → r .pending ≡ candidate r
+  pending-candidate d m = simp (d, m, and-true)
+
+  pub rank-candidate : candidate r ≡ true → r .priority + 1 ≡ rank r
+  rank-candidate e = simp (e, add-one)
+
+  pub rank-none : candidate r ≡ false → 0 ≡ rank r
+  rank-none e = simp e
