@@ -2,3 +2,4 @@
 pub mod Winner
 pub mod Tree
 pub mod Depth
+pub mod Keys

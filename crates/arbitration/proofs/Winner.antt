@@ -4,7 +4,8 @@
 --   FirstIn above lo len w     w is the first of the highest among lo, .., lo + len - 1
 --   none-above                 nothing in the range is above its first
 --   first-unique               a range has one first
---   node                       two ranges side by side: `winner` of their firsts is the first of both together
+--   node                       two ranges side by side: `winner` of their firsts is the first of both together;
+--                              `node-left` and `node-right` say which, by the comparison
 --   tree-first, walk-first     the comparator tree and the plain walk find it
 --   tree-walk                  so they agree on every row, the empty one too
 -- A weak order does not say who keeps a tie; `FirstIn` does.
@@ -99,7 +100,7 @@ module _ (above : ℕ → ℕ → Bool) (order : WeakOrder above) where
 
   module _ (lo a mid b len x y : ℕ) (e : mid ≡ lo + a) (s : a + b ≡ len) (f : FirstIn above lo a x) (g : FirstIn above mid b y) where
     -- y is above x, and so above all of the left range
-    node-right : above y x ≡ true → FirstIn above lo len y
+    pub node-right : above y x ≡ true → FirstIn above lo len y
     node-right p =
         record {
           from = omega arith;
@@ -113,7 +114,7 @@ module _ (above : ℕ → ℕ → Bool) (order : WeakOrder above) where
         go j h r (no u) = g .before j (omega arith) r
 
     -- y is not above x, and so nothing of the right range is
-    node-left : above y x ≡ false → FirstIn above lo len x
+    pub node-left : above y x ≡ false → FirstIn above lo len x
     node-left p =
         record {
           from = omega arith;

@@ -9,6 +9,10 @@
 --   Commands      effects, refusals, answers, making, and the run of a list of commands
 --   Ledger        the ledger kept from commands and their answers; collection, placement, sorting
 --   Statements    what is claimed of all this, as propositions; their proofs are in the crates above this one
+--   Cases         the worked cases of document 01's table of runs
+--   Encoding      a list of commands as numbers
+--   Borrowed      the two calls on records that the host lends
+--   Bytes         a state, commands and answers as bytes
 pub mod Records
 pub mod Priorities
 pub mod Walks
@@ -20,3 +24,6 @@ pub mod Commands
 pub mod Ledger
 pub mod Statements
 pub mod Cases
+pub mod Encoding
+pub mod Borrowed
+pub mod Bytes

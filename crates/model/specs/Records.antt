@@ -15,6 +15,9 @@ use Rattle.model.specs.declared.MessageBox.{MessageBox}
 use Rattle.model.specs.declared.Core.{Core}
 use Rattle.model.specs.declared.Controller.{Controller}
 use Rattle.model.specs.declared.Answer.{Answer}
+use Rattle.model.specs.declared.Found.{Found}
+use Rattle.model.specs.declared.Taken.{Taken}
+use Rattle.model.specs.declared.Claimed.{Claimed}
 
 -- The largest sizes: n is 1 to 128, m is 1 to 32.
 abbrev pub maxSources : ℕ
@@ -37,45 +40,48 @@ indexOf id = pred (id .0)
 
 -- ---- a source
 
+abbrev pub sourceWith : ℕ → Bool → Bool → Bool → ℕ → Source
+sourceWith configured masked pending delivered priority =
+    record { configured = configured; masked = masked; pending = pending; delivered = delivered; priority = priority }
+
 abbrev pub noSource : Source
-noSource = record { configured = 0; masked = false; pending = false; delivered = false; priority = 0 }
+noSource = sourceWith 0 false false false 0
 
 abbrev pub resetSource : Source
-resetSource = record { configured = 1; masked = true; pending = false; delivered = false; priority = 0 }
+resetSource = sourceWith 1 true false false 0
 
 abbrev pub withConfigured : ℕ → Source → Source
-withConfigured p r =
-    record { configured = p; masked = r .masked; pending = r .pending; delivered = r .delivered; priority = r .priority }
+withConfigured p r = sourceWith p (r .masked) (r .pending) (r .delivered) (r .priority)
 
 abbrev pub withMask : Bool → Source → Source
-withMask b r =
-    record { configured = r .configured; masked = b; pending = r .pending; delivered = r .delivered; priority = r .priority }
+withMask b r = sourceWith (r .configured) b (r .pending) (r .delivered) (r .priority)
 
 abbrev pub withDelivered : Bool → Source → Source
-withDelivered b r =
-    record { configured = r .configured; masked = r .masked; pending = r .pending; delivered = b; priority = r .priority }
+withDelivered b r = sourceWith (r .configured) (r .masked) (r .pending) b (r .priority)
 
 -- a new request, at the source's priority
 abbrev pub opened : Source → Source
-opened r =
-    record { configured = r .configured; masked = r .masked; pending = true; delivered = false; priority = r .configured }
+opened r = sourceWith (r .configured) (r .masked) true false (r .configured)
 
 -- no request any more
 abbrev pub ended : Source → Source
-ended r = record { configured = r .configured; masked = r .masked; pending = false; delivered = false; priority = 0 }
+ended r = sourceWith (r .configured) (r .masked) false false 0
 
 -- ---- a core and its message box
 
+abbrev pub boxWith : Bool → Bool → SourceId → ℕ → MessageBox
+boxWith filled dirty id p = record { filled = filled; dirty = dirty; source = id; priority = p }
+
 abbrev pub emptyBox : MessageBox
-emptyBox = record { filled = false; dirty = false; source = sourceId 0; priority = 0 }
+emptyBox = boxWith false false (sourceId 0) 0
 
 -- a clean box that holds the request of a source
 abbrev pub holding : SourceId → ℕ → MessageBox
-holding id p = record { filled = true; dirty = false; source = id; priority = p }
+holding id p = boxWith true false id p
 
 -- a filled box becomes dirty, an empty one stays as it is
 abbrev pub dirtied : MessageBox → MessageBox
-dirtied b = record { filled = b .filled; dirty = b .filled; source = b .source; priority = b .priority }
+dirtied b = boxWith (b .filled) (b .filled) (b .source) (b .priority)
 
 abbrev pub coreWith : ℕ → MessageBox → Core
 coreWith p b = record { configured = p; message = b }
@@ -94,11 +100,14 @@ sourceAt s i = getD (s .sources) i noSource
 abbrev pub coreAt : Controller → ℕ → Core
 coreAt s k = getD (s .cores) k noCore
 
+abbrev pub controllerWith : ℕ → ℕ → List Source → List Core → Controller
+controllerWith n m sources cores = record { n = n; m = m; sources = sources; cores = cores }
+
 abbrev pub withSources : Controller → List Source → Controller
-withSources s l = record { n = s .n; m = s .m; sources = l; cores = s .cores }
+withSources s l = controllerWith (s .n) (s .m) l (s .cores)
 
 abbrev pub withCores : Controller → List Core → Controller
-withCores s l = record { n = s .n; m = s .m; sources = s .sources; cores = l }
+withCores s l = controllerWith (s .n) (s .m) (s .sources) l
 
 abbrev pub withSource : Controller → ℕ → Source → Controller
 withSource s i r = withSources s (set (s .sources) i r)
@@ -108,10 +117,18 @@ withCore s k c = withCores s (set (s .cores) k c)
 
 -- Document 01: "fresh".
 abbrev pub reset : ℕ → ℕ → Controller
-reset n m =
-    record { n = n; m = m; sources = replicate maxSources resetSource; cores = replicate maxCores resetCore }
+reset n m = controllerWith n m (replicate maxSources resetSource) (replicate maxCores resetCore)
 
--- ---- an answer
+-- ---- answers
 
 abbrev pub answer : Controller → ℕ → ℕ → ℕ → Answer
 answer s number id cycles = record { state = s; number = number; id = sourceId id; cycles = cycles }
+
+abbrev pub found : ℕ → ℕ → Found
+found number position = record { number = number; position = position }
+
+abbrev pub taken : ℕ → SourceId → Core → Taken
+taken number id c = record { number = number; id = id; core = c }
+
+abbrev pub claimedAs : Taken → Claimed
+claimedAs t = record { number = t .number; id = t .id }

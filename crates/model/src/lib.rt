@@ -3,11 +3,11 @@
 // Widths: ids, core numbers and priorities are u16, so that up to 1,023 sources with priorities up to 2,047 fit.
 
 ghost use mathlib.Core.Path.{_≡_};
-ghost use Rattle.model.specs.Records.{emptyBox, holding, coreWith, resetSource, reset as resetOf};
+ghost use Rattle.model.specs.Records.{sourceWith, boxWith, emptyBox, holding, coreWith, reset as resetOf};
 ghost use Rattle.model.specs.Priorities.{topPriority};
 ghost use Rattle.model.specs.Requests.{currentPriority, candidate};
 ghost use Rattle.model.specs.Arbitration.{rank as rankOf};
-ghost use Rattle.model.specs.Commands.{claimedCore};
+ghost use Rattle.model.specs.Commands.{claimedCore, soiled as soiledCore};
 
 // The largest sizes: n is 1 to 128, m is 1 to 32.
 pub const SOURCES: usize = 128;
@@ -76,6 +76,34 @@ pub struct Answer {
     pub cycles: u16,
 }
 
+// What the run of a list of commands answers: the state after the commands that could be read, how many those were, and whether
+// they were all.
+pub struct Ran {
+    pub state: Controller,
+    pub taken: usize,
+    pub whole: bool,
+}
+
+// What the search over a lent list answers: document 01's number, and the position plus one of the first highest candidate, 0 for
+// none.
+pub struct Found {
+    pub number: u8,
+    pub position: u16,
+}
+
+// What the claim of one core record gives: document 01's number, the claimed id, and the record after it.
+pub struct Taken {
+    pub number: u8,
+    pub id: SourceId,
+    pub core: Core,
+}
+
+// What the claim of a lent record answers.
+pub struct Claimed {
+    pub number: u8,
+    pub id: SourceId,
+}
+
 // What one cycle of settling does.
 pub enum Cycle {
     Rest,
@@ -87,67 +115,93 @@ pub enum Cycle {
 
 // ---- the records' values. Every literal of a state record in code stands here.
 
+pub fn source_with(
+    configured: u16,
+    masked: bool,
+    pending: bool,
+    delivered: bool,
+    priority: u16,
+) -> Source
+    ensures { λ r. ⌜ r ≡ sourceWith configured masked pending delivered priority ⌝ }
+{
+    Source {
+        configured,
+        masked,
+        pending,
+        delivered,
+        priority,
+    }
+}
+
+pub fn box_with(filled: bool, dirty: bool, source: SourceId, priority: u16) -> MessageBox
+    ensures { λ r. ⌜ r ≡ boxWith filled dirty source priority ⌝ }
+{
+    MessageBox {
+        filled,
+        dirty,
+        source,
+        priority,
+    }
+}
+
+pub fn core_with(configured: u16, message: MessageBox) -> Core
+    ensures { λ r. ⌜ r ≡ coreWith configured message ⌝ }
+{
+    Core {
+        configured,
+        message,
+    }
+}
+
 pub fn empty_box() -> MessageBox
     ensures { λ r. ⌜ r ≡ emptyBox ⌝ }
 {
-    MessageBox {
-        filled: false,
-        dirty: false,
-        source: SourceId(0),
-        priority: 0,
-    }
+    box_with(false, false, SourceId(0), 0)
 }
 
 // The core with its box emptied.
 pub fn emptied(c: Core) -> Core
     ensures { λ r. ⌜ r ≡ coreWith (c .configured) emptyBox ⌝ }
 {
-    Core {
-        configured: c.configured,
-        message: empty_box(),
-    }
+    core_with(c.configured, empty_box())
 }
 
 // The core with a request in its box.
 pub fn filled_with(c: Core, id: SourceId, p: u16) -> Core
     ensures { λ r. ⌜ r ≡ coreWith (c .configured) (holding id p) ⌝ }
 {
-    Core {
-        configured: c.configured,
-        message: MessageBox {
-            filled: true,
-            dirty: false,
-            source: id,
-            priority: p,
-        },
-    }
+    core_with(c.configured, box_with(true, false, id, p))
 }
 
 // The core raised to its box's priority, and the box emptied.
 pub fn claimed_core(c: Core) -> Core
     ensures { λ r. ⌜ r ≡ claimedCore c ⌝ }
 {
-    Core {
-        configured: c.message.priority,
-        message: empty_box(),
-    }
+    core_with(c.message.priority, empty_box())
+}
+
+// The core with its box made dirty, if it is filled.
+pub fn soiled(c: Core) -> Core
+    ensures { λ r. ⌜ r ≡ soiledCore c ⌝ }
+{
+    let source = c.message.source;
+    core_with(
+        c.configured,
+        box_with(
+            c.message.filled,
+            c.message.filled,
+            source,
+            c.message.priority,
+        ),
+    )
 }
 
 // Document 01: "fresh". Any sizes; who asks for a controller checks them first.
 pub fn reset(n: u16, m: u16) -> Controller
     ensures { λ r. ⌜ r ≡ resetOf n m ⌝ }
 {
-    let source = Source {
-        configured: 1,
-        masked: true,
-        pending: false,
-        delivered: false,
-        priority: 0,
-    };
-    let core = Core {
-        configured: 0,
-        message: empty_box(),
-    };
+    let source = source_with(1, true, false, false, 0);
+    let core = core_with(0, empty_box());
     Controller {
         n,
         m,

@@ -3,15 +3,18 @@
 --   x and y                   both tests
 --   unless-exact, implies-exact, from-exact    a test under a condition: `a || b`, `not a || b`, `ltb i n || b`
 --   every-exact               a test at each number below a bound
+--   passes, refused           the test's value from the fact, and from its refutation
+--   agree                     two tests of equivalent facts have the same value
+--   accepted, rejected        what an answer r of the test says, where the code branches on `!r`
 use Prim.Native.Nat.{ℕ, _<_, _≤_}
-use mathlib.Core.Path.{_≡_, refl}
+use mathlib.Core.Path.{_≡_, refl, sym, _∙_}
 use mathlib.Core.Logic.{_↔_}
 use mathlib.Core.Bool.{Bool, true, false, not, _&&_, _||_}
 use lib.Dec.{ltb, leb, eqb}
 use borrow.Author.Tests.{ltb-true, ltb-false, leb-true, eqb-true, lt-ltb, le-ltb, le-leb, eq-eqb}
 use Rattle.model.specs.Walks.{every}
 use Rattle.model.specs.WellFormed.{between}
-use Rattle.model.proofs.Bools.{and-in, and-l, and-r, not-in, not-out, clash, Flag, on, off, flag}
+use Rattle.model.proofs.Bools.{and-in, and-l, and-r, not-in, not-out, not-not, clash, Flag, on, off, flag}
 use Rattle.model.proofs.Walks.{every-out, every-in}
 
 infixl 35 _and_
@@ -65,3 +68,24 @@ from-exact i n y =
 
 pub every-exact : (n : ℕ) {f : ℕ → Bool} {P : ℕ → Type 0} → ((i : ℕ) → Exact (f i) (P i)) → Exact (every n f) ((i : ℕ) → i < n → P i)
 every-exact n {f} x = (λ e i h. x i .0 (every-out n f e i h), λ p. every-in n f (λ i h. x i .1 (p i h)))
+
+-- ---- a test's value
+
+pub passes : {b : Bool} {B : Type 0} → Exact b B → B → true ≡ b
+passes y p = sym (y .1 p)
+
+pub refused : {b : Bool} {B : Type 0} → Exact b B → ¬ B → false ≡ b
+refused {b} y r = sym (not-out b (refuted-exact y .1 r))
+
+pub accepted : {r b : Bool} {B : Type 0} → Exact b B → r ≡ b → not r ≡ false → B
+accepted {r} y e q = y .0 (sym e ∙ not-not r q)
+
+pub rejected : {r b : Bool} {B : Type 0} → Exact b B → r ≡ b → not r ≡ true → ¬ B
+rejected {r} y e q p = clash (y .1 p) (sym e ∙ not-out r q)
+
+pub agree : {a b : Bool} {A B : Type 0} → Exact a A → Exact b B → (A → B) → (B → A) → a ≡ b
+agree {a} {b} x y to back = go (flag a)
+  where
+    go : Flag a → a ≡ b
+    go (on p) = p ∙ passes y (to (x .0 p))
+    go (off p) = p ∙ refused y (λ q. clash (x .1 (back q)) p)

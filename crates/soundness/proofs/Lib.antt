@@ -3,7 +3,17 @@
 --   Clauses   the tests of single records
 --   Test      the sound-state test is exact
 --   Reset     a reset controller is well formed; making answers exactly that
+--   Turns     a loop that tests each record
+--   Fits      the loop over the sources
+--   Cores     one core in the test
+--   Marks     what the loop over the cores keeps
+--   Verdict   the answers of all loops together
 pub mod Exact
 pub mod Clauses
 pub mod Test
 pub mod Reset
+pub mod Turns
+pub mod Fits
+pub mod Cores
+pub mod Marks
+pub mod Verdict

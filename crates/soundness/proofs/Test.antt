@@ -62,6 +62,14 @@ module _ (m : ℕ) (R : ℕ → ℕ → Type 0) (turn : (j k : ℕ) → R j k �
     λ f k q j h r. omega (arith, f j k (omega arith) q r),
   )
 
+-- no source lies in two boxes
+pub sources-apart : (s : Controller) →
+    ((k : ℕ) → k < s .m → (j : ℕ) → j < k → ¬ SameSource (coreAt s j) (coreAt s k)) ↔
+    ((j k : ℕ) → j < s .m → k < s .m → SameSource (coreAt s j) (coreAt s k) → j ≡ k)
+sources-apart s =
+    apart-exact (s .m) (λ j k. SameSource (coreAt s j) (coreAt s k))
+    (λ j k f. record { left = f .right; right = f .left; source = sym (f .source) })
+
 module _ (s : Controller) where
   lists-exact : Exact (listsWhole s) ((length (s .sources) ≡ maxSources) × (length (s .cores) ≡ maxCores))
   unfolding listsWhole
@@ -91,8 +99,7 @@ module _ (s : Controller) where
   unfolding boxesDistinct
   distinct-exact =
       Iff·trans (every-exact (s .m) (λ k. every-exact k (λ j. refuted-exact (same-source-exact (coreAt s j) (coreAt s k)))))
-      (apart-exact (s .m) (λ j k. SameSource (coreAt s j) (coreAt s k))
-      (λ j k f. record { left = f .right; right = f .left; source = sym (f .source) }))
+      (sources-apart s)
 
   clean-exact : Exact (boxesClean s) ((k : ℕ) → k < s .m → (coreAt s k) .message .dirty ≡ false)
   unfolding boxesClean

@@ -1,0 +1,19 @@
+-- Arbitration over rows of numbers. Helpers of contracts; nothing here needs to be believed.
+--   keyAbove ks i j, keyBelow ks i j    the key at i is strictly above, below the key at j
+--   HighestKey ks lo len r              r is what the comparator tree answers, whatever bound its depth is given
+use Prim.Native.Nat.{ℕ, _≤_}
+use mathlib.Core.Path.{_≡_}
+use mathlib.Core.List.{List}
+use mathlib.Core.Bool.{Bool}
+use lib.ListN.{getD}
+use lib.Dec.{ltb}
+use Rattle.model.specs.Walks.{tree}
+
+abbrev pub keyAbove : List ℕ → ℕ → ℕ → Bool
+keyAbove ks i j = ltb (getD ks j 0) (getD ks i 0)
+
+abbrev pub keyBelow : List ℕ → ℕ → ℕ → Bool
+keyBelow ks i j = ltb (getD ks i 0) (getD ks j 0)
+
+abbrev pub HighestKey : List ℕ → ℕ → ℕ → ℕ → Type 0
+HighestKey ks lo len r = (d : ℕ) → len ≤ d → r ≡ tree (keyAbove ks) d lo len

@@ -1,0 +1,184 @@
+-- A state, commands and answers as bytes, for hosts. Definitions only. Assumes nothing.
+-- Numbers of 16 bits are two bytes, the lower first; a flag is one byte, 0 or 1. The page docs/ENCODING.md has the layout with an example.
+--   stateBytes s        4 bytes of sizes, 128 sources of 7 bytes, 32 cores of 8 bytes: 1,156 in all
+--   isState b           b encodes a state: the length is right and each flag is 0 or 1; the state may still be unsound
+--   stateFrom b         that state
+--   commandsIn b        the commands in a row of 5 bytes each: its number 0 to 7, the id or core, the priority
+--   answerBytes a       5 bytes: the number, the id, the cycles
+--   makeCall, executeCall, runCall    what the exported calls answer and write
+use Prim.Native.Nat.{ℕ, zero, suc, _+_, _*_, _/_, _%_}
+use mathlib.Core.List.{List, [], _∷_, _++_}
+use mathlib.Core.Bool.{Bool, true, false, _&&_, cond}
+use lib.ListN.{length, getD}
+use lib.Seq.{sets}
+use lib.Dec.{ltb, leb, eqb}
+use Rattle.model.specs.declared.Source.{Source}
+use Rattle.model.specs.declared.Core.{Core}
+use Rattle.model.specs.declared.Controller.{Controller}
+use Rattle.model.specs.declared.Answer.{Answer}
+use Rattle.model.specs.declared.Command.{Command}
+use Rattle.model.specs.Records.{maxSources, maxCores, sourceId, sourceWith, boxWith, coreWith, controllerWith}
+use Rattle.model.specs.Walks.{every}
+use Rattle.model.specs.Commands.{execute, make, run}
+use Rattle.model.specs.Encoding.{commandOf}
+
+-- ---- single values
+
+abbrev pub word : ℕ → List ℕ
+word x = x % 256 ∷ x / 256 ∷ []
+
+abbrev pub flagByte : Bool → ℕ
+flagByte b = cond b 1 0
+
+abbrev pub wordAt : List ℕ → ℕ → ℕ
+wordAt b i = getD b i 0 + 256 * getD b (i + 1) 0
+
+abbrev pub flagAt : List ℕ → ℕ → Bool
+flagAt b i = eqb (getD b i 0) 1
+
+abbrev pub isFlagAt : List ℕ → ℕ → Bool
+isFlagAt b i = leb (getD b i 0) 1
+
+-- ---- a state
+
+abbrev pub sourceSize : ℕ
+sourceSize = 7
+
+abbrev pub coreSize : ℕ
+coreSize = 8
+
+-- Where the sources begin, where the cores begin, and where the state ends.
+abbrev pub sourcesFrom : ℕ
+sourcesFrom = 4
+
+abbrev pub coresFrom : ℕ
+coresFrom = sourcesFrom + sourceSize * maxSources
+
+abbrev pub stateSize : ℕ
+stateSize = coresFrom + coreSize * maxCores
+
+abbrev pub sourceBytes : Source → List ℕ
+sourceBytes r =
+    word (r .configured) ++
+    (flagByte (r .masked) ∷ flagByte (r .pending) ∷ flagByte (r .delivered) ∷ word (r .priority))
+
+abbrev pub coreBytes : Core → List ℕ
+coreBytes c =
+    word (c .configured) ++
+    (flagByte (c .message .filled) ∷ flagByte (c .message .dirty) ∷ (word (c .message .source .0) ++ word (c .message .priority)))
+
+-- The bytes of each record of a list, joined.
+unfoldable pub joined : {A : Type 0} → (A → List ℕ) → List A → List ℕ
+joined f [] = []
+joined f (x ∷ xs) = f x ++ joined f xs
+
+unfoldable pub stateBytes : Controller → List ℕ
+stateBytes s = word (s .n) ++ (word (s .m) ++ (joined sourceBytes (s .sources) ++ joined coreBytes (s .cores)))
+
+abbrev pub sourceFrom : List ℕ → ℕ → Source
+sourceFrom b i = sourceWith (wordAt b i) (flagAt b (i + 2)) (flagAt b (i + 3)) (flagAt b (i + 4)) (wordAt b (i + 5))
+
+abbrev pub coreFrom : List ℕ → ℕ → Core
+coreFrom b i =
+    coreWith (wordAt b i) (boxWith (flagAt b (i + 2)) (flagAt b (i + 3)) (sourceId (wordAt b (i + 4))) (wordAt b (i + 6)))
+
+-- The values f 0, .., f (n - 1).
+unfoldable pub tabulated : {A : Type 0} → ℕ → (ℕ → A) → List A
+tabulated zero f = []
+tabulated (suc k) f = tabulated k f ++ (f k ∷ [])
+
+unfoldable pub stateFrom : List ℕ → Controller
+stateFrom b =
+    controllerWith (wordAt b 0) (wordAt b 2)
+    (tabulated maxSources (λ i. sourceFrom b (sourcesFrom + sourceSize * i)))
+    (tabulated maxCores (λ k. coreFrom b (coresFrom + coreSize * k)))
+
+abbrev pub sourceFlags : List ℕ → ℕ → Bool
+sourceFlags b i = isFlagAt b (i + 2) && isFlagAt b (i + 3) && isFlagAt b (i + 4)
+
+abbrev pub coreFlags : List ℕ → ℕ → Bool
+coreFlags b i = isFlagAt b (i + 2) && isFlagAt b (i + 3)
+
+unfoldable pub isState : List ℕ → Bool
+isState b =
+    eqb (length b) stateSize &&
+    every maxSources (λ i. sourceFlags b (sourcesFrom + sourceSize * i)) &&
+    every maxCores (λ k. coreFlags b (coresFrom + coreSize * k))
+
+-- ---- commands and answers
+
+abbrev pub commandSize : ℕ
+commandSize = 5
+
+-- The commands up to the first that cannot be read: a number above 7, or fewer than five bytes left.
+unfoldable pub commandsIn : List ℕ → List Command
+commandsIn [] = []
+commandsIn (a ∷ []) = []
+commandsIn (a ∷ b ∷ []) = []
+commandsIn (a ∷ b ∷ c ∷ []) = []
+commandsIn (a ∷ b ∷ c ∷ d ∷ []) = []
+commandsIn (a ∷ b ∷ c ∷ d ∷ e ∷ rest) = cond (ltb a 8) (commandOf a (b + 256 * c) (d + 256 * e) ∷ commandsIn rest) []
+
+abbrev pub answerSize : ℕ
+answerSize = 5
+
+abbrev pub answerBytes : Answer → List ℕ
+answerBytes a = a .number ∷ (word (a .id .0) ++ word (a .cycles))
+
+-- What a list of commands answers, each getting the state that the one before handed back.
+unfoldable pub answersTo : Controller → List Command → List Answer
+answersTo s [] = []
+answersTo s (c ∷ cs) = execute s c ∷ answersTo ((execute s c) .state) cs
+
+-- ---- the calls. `unreadable` is answered, and nothing is written, where bytes encode no state, a command's number is above 7, or a
+-- buffer is too short.
+
+abbrev pub unreadable : ℕ
+unreadable = 255
+
+-- One answer as a number: number, id and cycles in 8, 16 and 16 binary digits.
+abbrev pub packed : Answer → ℕ
+packed a = a .number + 256 * (a .id .0 + 65536 * a .cycles)
+
+-- What a call answers, and what the host's state bytes then are.
+pub record Call : Type 0 where
+  pub result : ℕ
+  pub bytes : List ℕ
+
+abbrev pub callOf : ℕ → List ℕ → Call
+callOf result bytes = record { result = result; bytes = bytes }
+
+unfoldable pub makeCall : ℕ → ℕ → List ℕ → Call
+makeCall n m b =
+    cond (eqb (length b) stateSize) (callOf (packed (make n m)) (stateBytes ((make n m) .state))) (callOf unreadable b)
+
+unfoldable pub executeCall : ℕ → ℕ → ℕ → List ℕ → Call
+executeCall number at p b =
+    cond (isState b && ltb number 8)
+    (callOf (packed (execute (stateFrom b) (commandOf number at p))) (stateBytes ((execute (stateFrom b) (commandOf number at p)) .state)))
+    (callOf unreadable b)
+
+-- The run of a list: how many commands were taken, the state after them, and their answers in the front of the answers' buffer.
+pub record RunCall : Type 0 where
+  pub result : ℕ
+  pub bytes : List ℕ
+  pub answers : List ℕ
+
+abbrev pub runCallOf : ℕ → List ℕ → List ℕ → RunCall
+runCallOf result bytes answers = record { result = result; bytes = bytes; answers = answers }
+
+-- What stands for `unreadable` where the answer is a count.
+abbrev pub noCount : ℕ
+noCount = 18446744073709551615
+
+-- The list has whole commands, and an answer for each fits.
+abbrev pub fitsRun : List ℕ → List ℕ → List ℕ → Bool
+fitsRun b commands answers =
+    isState b && eqb (length commands % commandSize) 0 && leb (length commands / commandSize * answerSize) (length answers)
+
+unfoldable pub runCall : List ℕ → List ℕ → List ℕ → RunCall
+runCall b commands answers =
+    cond (fitsRun b commands answers)
+    (runCallOf (length (commandsIn commands)) (stateBytes (run (stateFrom b) (commandsIn commands)))
+    (sets answers 0 (joined answerBytes (answersTo (stateFrom b) (commandsIn commands)))))
+    (runCallOf noCount b answers)

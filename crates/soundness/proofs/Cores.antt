@@ -1,0 +1,97 @@
+-- One core in the sound-state test: what the test asks of it, and the same from the loop's tests. Assumes nothing.
+--   CoreSound s k               what is asked of core k, beside the cores before it
+--   core-sound                  it holds of each core of a well-formed state
+--   filled-sound, empty-sound   from the tests that a core passed, with a filled box and with an empty one
+--   backed-out                  the last test of a filled box succeeds
+use Prim.Native.Nat.{ℕ, pred, _-_, _<_, _≤_}
+use mathlib.Core.Path.{_≡_, sym, _∙_, ap}
+use mathlib.Core.Bool.{Bool, true, false}
+use native.Mathlib.Omega.{arith}
+use lib.ListN.{getD}
+use Rattle.model.specs.declared.Source.{Source}
+use Rattle.model.specs.declared.MessageBox.{MessageBox}
+use Rattle.model.specs.declared.Core.{Core}
+use Rattle.model.specs.declared.Controller.{Controller}
+use Rattle.model.specs.Records.{noSource, emptyBox, sourceAt, coreAt}
+use Rattle.model.specs.Priorities.{topPriority}
+use Rattle.model.specs.Requests.{boxed}
+use Rattle.model.specs.WellFormed.{isEmptyBox, Backed, WellFormed}
+use Rattle.model.proofs.Bools.{clash}
+use Rattle.model.proofs.Boxes.{holds-in, unboxed-out}
+use Rattle.soundness.specs.Loops.{cleanBacked}
+use Rattle.soundness.proofs.Exact.{Exact, _and_, flag-exact, not-exact, eqb-exact, ltb-exact}
+use Rattle.soundness.proofs.Clauses.{CoreFits, empty-box-exact, SameSource}
+
+pub record CoreSound (s : Controller) (k : ℕ) : Type 0 where
+  pub fits : CoreFits (topPriority (s .n)) (coreAt s k)
+  pub backed : (coreAt s k) .message .filled ≡ true → Backed s (coreAt s k)
+  pub clean : (coreAt s k) .message .dirty ≡ false
+  pub apart : (j : ℕ) → j < k → SameSource (coreAt s j) (coreAt s k) → ⊥
+
+pub core-sound : (s : Controller) → WellFormed s → (k : ℕ) → k < s .m → CoreSound s k
+core-sound s w k h =
+    record {
+      fits = record { configured = w .configured-core k h; empty = w .empty-box k h };
+      backed = w .backed k h;
+      clean = w .clean k h;
+      apart = λ j g q. omega (arith, w .distinct j k (omega arith) h (q .left) (q .right) (q .source));
+    }
+
+clean-backed-exact : (c : Core) (r : Source) →
+    Exact (cleanBacked c r)
+    (((((c .message .dirty ≡ false) × (r .pending ≡ true)) × (r .delivered ≡ true)) × (r .priority ≡ c .message .priority)) ×
+    (c .configured < c .message .priority))
+unfolding cleanBacked
+clean-backed-exact c r =
+    not-exact (c .message .dirty) and
+    flag-exact (r .pending) and
+    flag-exact (r .delivered) and
+    eqb-exact (r .priority) (c .message .priority) and ltb-exact (c .configured) (c .message .priority)
+
+module _ (s : Controller) (k : ℕ) where
+  abbrev pub idAt : ℕ
+  idAt = (coreAt s k) .message .source .0
+
+  -- what `is_backed` tests of the box of core k, at its source's index
+  abbrev pub backedAt : Bool
+  backedAt = cleanBacked (coreAt s k) (getD (s .sources) (idAt - 1) noSource)
+
+  same-index : pred idAt ≡ idAt - 1
+  same-index = omega arith
+
+  same-source : backedAt ≡ cleanBacked (coreAt s k) (sourceAt s (pred idAt))
+  same-source = ap (λ (i : ℕ). cleanBacked (coreAt s k) (getD (s .sources) i noSource)) (sym same-index)
+
+  pub backed-out : CoreSound s k → (coreAt s k) .message .filled ≡ true → backedAt ≡ true
+  backed-out o e =
+      let b = o .backed e in
+      same-source ∙
+      clean-backed-exact (coreAt s k) (sourceAt s (pred idAt)) .1 ((((o .clean, b .pending), b .delivered), b .same-priority), b .above)
+
+  pub filled-sound : (coreAt s k) .configured ≤ topPriority (s .n) → (coreAt s k) .message .filled ≡ true → (idAt ≡ 0 → ⊥) → idAt ≤ s .n → boxed (s .cores) k idAt ≡ false → backedAt ≡ true → CoreSound s k
+  filled-sound p e some-id id-le u b =
+      let ((((clean, pending), delivered), priority), above) = clean-backed-exact (coreAt s k) (sourceAt s (pred idAt)) .0 (sym same-source ∙ b) in
+      record {
+        fits = record { configured = p; empty = λ f. clash e f };
+        backed = λ f.
+            record {
+              some-id = omega arith;
+              id-le = id-le;
+              pending = pending;
+              delivered = delivered;
+              same-priority = priority;
+              above = above;
+            };
+        clean = clean;
+        apart = λ j h f. clash (holds-in idAt (coreAt s j) (f .left) (f .source)) (unboxed-out (s .cores) k idAt u j h);
+      }
+
+  pub empty-sound : (coreAt s k) .configured ≤ topPriority (s .n) → (coreAt s k) .message .filled ≡ false → isEmptyBox ((coreAt s k) .message) ≡ true → CoreSound s k
+  empty-sound p e b =
+      let q : (coreAt s k) .message ≡ emptyBox = empty-box-exact ((coreAt s k) .message) .0 b in
+      record {
+        fits = record { configured = p; empty = λ f. q };
+        backed = λ f. clash f e;
+        clean = ap (λ (d : MessageBox). d .dirty) q;
+        apart = λ j h f. clash (f .right) e;
+      }

@@ -1,0 +1,156 @@
+-- What the loop over the cores keeps of the cores below k: where it begins, and one turn. Assumes nothing.
+--   Boxes s seen covered k     they are sound, `seen` marks the sources in their boxes, and `covered` is the greatest configured
+--                              priority under a filled box, 0 if there is none
+--   Lowest s lowest k          the least of their current priorities, 65535 if there is none
+--   marked-twice               the next core's source lies in an earlier box
+--   filled-turn, empty-turn    one core more, with a filled box and with an empty one
+--   lowest-lower, lowest-same  one core more, below the least so far and not below it
+use Prim.Native.Nat.{ℕ, suc, _+_, _-_, _<_, _≤_}
+use mathlib.Core.Path.{_≡_, sym, _∙_, ap}
+use mathlib.Core.List.{List}
+use mathlib.Core.Bool.{Bool, true, false, _||_, or-false, and-false}
+use native.Mathlib.Omega.{arith}
+use native.Mathlib.Numerals.{add-one}
+use native.Mathlib.Decide.{ℕ-discrete}
+use lib.ListN.{length, getD, set, replicate, length-set, length-replicate, getD-replicate}
+use lib.Seq.{getD-set-same, getD-set-other}
+use borrow.Author.Count.{below-more}
+use borrow.Author.Tests.{ne-eqb}
+use Rattle.model.specs.declared.Core.{Core}
+use Rattle.model.specs.declared.Controller.{Controller}
+use Rattle.model.specs.Records.{maxSources, noCore, coreAt}
+use Rattle.model.specs.Priorities.{topPriority}
+use Rattle.model.specs.Walks.{some}
+use Rattle.model.specs.Requests.{currentPriority, holds, boxed}
+use Rattle.model.specs.WellFormed.{isEmptyBox}
+use Rattle.model.proofs.Bools.{or-in-r, clash}
+use Rattle.model.proofs.Boxes.{holds-in, holds-filled, holds-source, boxed-out}
+use Rattle.soundness.proofs.Cores.{CoreSound, idAt, backedAt, filled-sound, empty-sound}
+
+-- ---- one box more
+
+boxed-more : (l : List Core) (k id : ℕ) → boxed l (k + 1) id ≡ boxed l k id || holds id (getD l k noCore)
+unfolding boxed some
+boxed-more l k id = rw add-one
+
+boxed-here : (l : List Core) (k id : ℕ) → holds id (getD l k noCore) ≡ true → boxed l (k + 1) id ≡ true
+boxed-here l k id e = boxed-more l k id ∙ or-in-r (boxed l k id) e
+
+boxed-same : (l : List Core) (k id : ℕ) → holds id (getD l k noCore) ≡ false → boxed l (k + 1) id ≡ boxed l k id
+boxed-same l k id e = boxed-more l k id ∙ rw (e, or-false)
+
+holds-other : (id : ℕ) (c : Core) → (c .message .source .0 ≡ id → ⊥) → holds id c ≡ false
+holds-other id c h = rw (ne-eqb (c .message .source .0) id h, and-false)
+
+holds-empty : (id : ℕ) (c : Core) → c .message .filled ≡ false → holds id c ≡ false
+holds-empty id c e = rw e
+
+-- ---- the boxes
+
+pub record Boxes (s : Controller) (seen : List Bool) (covered k : ℕ) : Type 0 where
+  pub sound : (j : ℕ) → j < k → CoreSound s j
+  pub seen-length : length seen ≡ maxSources
+  pub marked : (i : ℕ) → i < maxSources → getD seen i false ≡ boxed (s .cores) k (suc i)
+  pub ge : (j : ℕ) → j < k → (coreAt s j) .message .filled ≡ true → (coreAt s j) .configured ≤ covered
+  pub least : (q : ℕ) → ((j : ℕ) → j < k → (coreAt s j) .message .filled ≡ true → (coreAt s j) .configured ≤ q) → covered ≤ q
+
+pub boxes-begin : (s : Controller) → Boxes s (replicate maxSources false) 0 0
+unfolding boxed some
+boxes-begin s =
+    record {
+      sound = λ j h. absurd (omega arith);
+      seen-length = length-replicate maxSources false;
+      marked = λ i h. getD-replicate maxSources i false false h;
+      ge = λ j h. absurd (omega arith);
+      least = λ q h. omega arith;
+    }
+
+module _ {s : Controller} {seen : List Bool} {covered k : ℕ} (b : Boxes s seen covered k) (some-id : idAt s k ≡ 0 → ⊥) (id-le : idAt s k ≤ maxSources) where
+  mark-is : getD seen (idAt s k - 1) false ≡ boxed (s .cores) k (idAt s k)
+  mark-is =
+      let e : suc (idAt s k - 1) ≡ idAt s k = omega arith in
+      b .marked (idAt s k - 1) (omega arith) ∙ ap (boxed (s .cores) k) e
+
+  unmarked : getD seen (idAt s k - 1) false ≡ false → boxed (s .cores) k (idAt s k) ≡ false
+  unmarked e = sym mark-is ∙ e
+
+  -- an earlier box names the source
+  pub marked-twice : CoreSound s k → (coreAt s k) .message .filled ≡ true → getD seen (idAt s k - 1) false ≡ true → ⊥
+  marked-twice o f e =
+      let w = boxed-out (s .cores) k (idAt s k) (sym mark-is ∙ e) in
+      o .apart (w .at) (w .below)
+      (record {
+        left = holds-filled (idAt s k) (coreAt s (w .at)) (w .holds);
+        right = f;
+        source = holds-source (idAt s k) (coreAt s (w .at)) (w .holds);
+      })
+
+module _ {s : Controller} {seen : List Bool} {covered k : ℕ} (b : Boxes s seen covered k) (o : CoreSound s k) where
+  boxes-empty : (coreAt s k) .message .filled ≡ false → Boxes s seen covered (k + 1)
+  boxes-empty e =
+      record {
+        sound = below-more (CoreSound s) k (b .sound) o;
+        seen-length = b .seen-length;
+        marked = λ i h. b .marked i h ∙ sym (boxed-same (s .cores) k (suc i) (holds-empty (suc i) (coreAt s k) e));
+        ge = below-more (λ j. (coreAt s j) .message .filled ≡ true → (coreAt s j) .configured ≤ covered) k (b .ge) (λ f. clash f e);
+        least = λ q h. b .least q (λ j g. h j (omega arith));
+      }
+
+  module _ (e : (coreAt s k) .message .filled ≡ true) (some-id : idAt s k ≡ 0 → ⊥) (id-le : idAt s k ≤ maxSources) where
+    marked-more : (i : ℕ) → i < maxSources → getD (set seen (idAt s k - 1) true) i false ≡ boxed (s .cores) (k + 1) (suc i)
+    marked-more i h = go (ℕ-discrete i (idAt s k - 1))
+      where
+        go : Dec (i ≡ idAt s k - 1) → getD (set seen (idAt s k - 1) true) i false ≡ boxed (s .cores) (k + 1) (suc i)
+        go (yes p) =
+            ap (λ (j : ℕ). getD (set seen (idAt s k - 1) true) j false) p ∙
+            getD-set-same seen (idAt s k - 1) true false (omega (arith, b .seen-length)) ∙
+            sym (boxed-here (s .cores) k (suc i) (holds-in (suc i) (coreAt s k) e (omega arith)))
+        go (no p) =
+            getD-set-other seen (idAt s k - 1) i true false p ∙
+            b .marked i h ∙ sym (boxed-same (s .cores) k (suc i) (holds-other (suc i) (coreAt s k) (λ q. p (omega arith))))
+
+    boxes-filled : (covered′ : ℕ) → covered ≤ covered′ → (coreAt s k) .configured ≤ covered′ → ((q : ℕ) → covered ≤ q → (coreAt s k) .configured ≤ q → covered′ ≤ q) → Boxes s (set seen (idAt s k - 1) true) covered′ (k + 1)
+    boxes-filled covered′ p q r =
+        record {
+          sound = below-more (CoreSound s) k (b .sound) o;
+          seen-length = length-set seen (idAt s k - 1) true ∙ b .seen-length;
+          marked = marked-more;
+          ge = below-more (λ j. (coreAt s j) .message .filled ≡ true → (coreAt s j) .configured ≤ covered′) k (λ j h f. omega (arith, b .ge j h f)) (λ f. q);
+          least = λ x h. r x (b .least x (λ j g. h j (omega arith))) (h k (omega arith) e);
+        }
+
+-- ---- one turn, from its tests
+
+module _ {s : Controller} {seen : List Bool} {covered k : ℕ} (b : Boxes s seen covered k) (p : (coreAt s k) .configured ≤ topPriority (s .n)) {seen′ : List Bool} {covered′ : ℕ} where
+  pub empty-turn : (coreAt s k) .message .filled ≡ false → isEmptyBox ((coreAt s k) .message) ≡ true → seen′ ≡ seen → covered′ ≡ covered → Boxes s seen′ covered′ (k + 1)
+  empty-turn e f x y = rw (x, y) (boxes-empty b (empty-sound s k p e f) e)
+
+  pub filled-turn : s .n ≤ maxSources → (coreAt s k) .message .filled ≡ true → (idAt s k ≡ 0 → ⊥) → idAt s k ≤ s .n → getD seen (idAt s k - 1) false ≡ false → backedAt s k ≡ true → seen′ ≡ set seen (idAt s k - 1) true → covered ≤ covered′ → (coreAt s k) .configured ≤ covered′ → ((q : ℕ) → covered ≤ q → (coreAt s k) .configured ≤ q → covered′ ≤ q) → Boxes s seen′ covered′ (k + 1)
+  filled-turn h e some-id id-le u f x low high least =
+      let g : idAt s k ≤ maxSources = omega arith in
+      let o = filled-sound s k p e some-id id-le (unmarked b some-id g u) f in
+      rw x (boxes-filled b o e some-id g covered′ low high least)
+
+-- ---- the least current priority
+
+pub record Lowest (s : Controller) (lowest k : ℕ) : Type 0 where
+  pub le : (j : ℕ) → j < k → lowest ≤ currentPriority (coreAt s j)
+  pub greatest : (p : ℕ) → p ≤ 65535 → ((j : ℕ) → j < k → p ≤ currentPriority (coreAt s j)) → p ≤ lowest
+
+pub lowest-begin : (s : Controller) → Lowest s 65535 0
+lowest-begin s = record { le = λ j h. absurd (omega arith); greatest = λ p h g. h }
+
+module _ {s : Controller} {lowest k : ℕ} (l : Lowest s lowest k) {p : ℕ} (e : p ≡ currentPriority (coreAt s k)) where
+  pub lowest-lower : p < lowest → Lowest s p (k + 1)
+  lowest-lower h =
+      record {
+        le = below-more (λ j. p ≤ currentPriority (coreAt s j)) k (λ j g. omega (arith, l .le j g)) (omega arith);
+        greatest = λ q a g. omega (arith, g k (omega arith));
+      }
+
+  pub lowest-same : lowest ≤ p → Lowest s lowest (k + 1)
+  lowest-same h =
+      record {
+        le = below-more (λ j. lowest ≤ currentPriority (coreAt s j)) k (l .le) (omega arith);
+        greatest = λ q a g. l .greatest q a (λ j i. g j (omega arith));
+      }

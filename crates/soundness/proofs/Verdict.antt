@@ -1,0 +1,105 @@
+-- The loops' answers together: what they say of a well-formed state, and that they make the state well formed. Assumes nothing.
+--   top-small        the top priority fits 16 binary digits
+--   covered-le       in a well-formed state no covered priority is above the least current one
+--   sources-fit      in a well-formed state every source fits
+--   well-formed      a state that passed every test is well formed
+use Prim.Native.Nat.{ℕ, suc, _+_, _*_, _^_, _<_, _≤_}
+use mathlib.Core.Path.{_≡_, sym, _∙_, ap}
+use mathlib.Core.Bool.{Bool, true, not}
+use mathlib.Core.List.{List, map}
+use native.Mathlib.Omega.{arith}
+use native.Mathlib.Nat.{pow-suc}
+use lib.ListN.{length, getD, length-map}
+use Rattle.model.specs.declared.Source.{Source}
+use Rattle.model.specs.declared.Core.{Core}
+use Rattle.model.specs.declared.Controller.{Controller}
+use Rattle.model.specs.Records.{maxSources, maxCores, noSource, noCore, resetSource, resetCore, sourceAt, coreAt}
+use Rattle.model.specs.Priorities.{floorLog2, priorityWidth, topPriority}
+use Rattle.model.specs.Requests.{candidate, waiting}
+use Rattle.model.specs.WellFormed.{WellFormed}
+use Rattle.model.specs.Statements.{InRange}
+use Rattle.model.proofs.Bools.{and-l}
+use Rattle.model.proofs.Priorities.{floor-log2-exact}
+use Rattle.soundness.specs.Loops.{spareSourcesReset, spareCoresReset}
+use Rattle.soundness.proofs.Exact.{Exact, from-exact, every-exact}
+use Rattle.soundness.proofs.Clauses.{reset-source-exact, reset-core-exact}
+use Rattle.soundness.proofs.Test.{sources-apart}
+use Rattle.soundness.proofs.Fits.{fitsAt}
+use Rattle.soundness.proofs.Cores.{CoreSound}
+use Rattle.soundness.proofs.Marks.{Boxes, Lowest}
+
+four-times : (k : ℕ) → 2 ^ (k + 2) ≡ 4 * 2 ^ k
+four-times k =
+    let e : k + 2 ≡ suc (suc k) = omega arith in ap (λ (i : ℕ). 2 ^ i) e ∙ omega (arith, pow-suc 2 k, pow-suc 2 (suc k))
+
+pub top-small : (n : ℕ) → 1 ≤ n → n ≤ maxSources → topPriority n ≤ 65535
+unfolding topPriority priorityWidth
+top-small n h g = omega (arith, floor-log2-exact n h (omega arith) .0, four-times (floorLog2 n))
+
+-- an array's length, as its elements' values have it
+pub unmapped : {A B : Type 0} (f : A → B) (l : List A) (n : ℕ) → length (map f l) ≡ n → length l ≡ n
+unmapped f l n e = sym (length-map l f) ∙ e
+
+-- ---- the spare records
+
+pub spare-sources-exact : (l : List Source) (n : ℕ) → Exact (spareSourcesReset l n) ((i : ℕ) → i < maxSources → n ≤ i → getD l i noSource ≡ resetSource)
+unfolding spareSourcesReset
+spare-sources-exact l n = every-exact maxSources (λ i. from-exact i n (reset-source-exact (getD l i noSource)))
+
+pub spare-cores-exact : (l : List Core) (m : ℕ) → Exact (spareCoresReset l m) ((k : ℕ) → k < maxCores → m ≤ k → getD l k noCore ≡ resetCore)
+unfolding spareCoresReset
+spare-cores-exact l m = every-exact maxCores (λ k. from-exact k m (reset-core-exact (getD l k noCore)))
+
+-- ---- after the loop over the cores
+
+module _ {s : Controller} {top lowest covered k : ℕ} {seen : List Bool} (e : top ≡ topPriority (s .n)) (all : k ≡ s .m) (b : Boxes s seen covered k) (l : Lowest s lowest k) where
+  module _ (w : WellFormed s) where
+    small : topPriority (s .n) ≤ 65535
+    small = top-small (s .n) (w .some-source) (w .n-le)
+
+    pub covered-le : covered ≤ lowest
+    covered-le =
+        b .least lowest
+        (λ j h f.
+        l .greatest ((coreAt s j) .configured) (omega (arith, small, w .configured-core j (omega arith)))
+        (λ i g. w .covered-settled j i (omega arith) (omega arith) f))
+
+    candidate-pending : (i : ℕ) → candidate (sourceAt s i) ≡ true → (sourceAt s i) .pending ≡ true
+    candidate-pending i f =
+        let r : Source = sourceAt s i in
+        and-l (r .pending) (not (r .delivered)) (and-l (waiting r) (not (r .masked)) f)
+
+    pub sources-fit : (i : ℕ) → i < s .n → fitsAt (s .sources) top lowest i
+    sources-fit i h =
+        rw e (
+          record { configured = w .configured-source i h; request = w .request-range i h; idle = w .idle-source i h },
+          λ f.
+              l .greatest ((sourceAt s i) .priority) (omega (arith, small, w .request-range i h (candidate-pending i f)))
+              (λ j g. w .candidates-settled i j h (omega arith) f),
+        )
+
+  pub well-formed : InRange (s .n) (s .m) → (length (s .sources) ≡ maxSources) × (length (s .cores) ≡ maxCores) → covered ≤ lowest → ((j : ℕ) → j < maxCores → s .m ≤ j → coreAt s j ≡ resetCore) → ((i : ℕ) → i < s .n → fitsAt (s .sources) top lowest i) → ((i : ℕ) → i < maxSources → s .n ≤ i → sourceAt s i ≡ resetSource) → WellFormed s
+  well-formed r (sources-length, cores-length) c spare-cores fits spare-sources =
+      let sound : (j : ℕ) → j < s .m → CoreSound s j = λ j h. b .sound j (omega arith) in
+      let fit : (i : ℕ) → i < s .n → fitsAt (s .sources) (topPriority (s .n)) lowest i = λ i h. rw e at (fits i h) in
+      record {
+        some-source = r .some-source;
+        n-le = r .n-le;
+        some-core = r .some-core;
+        m-le = r .m-le;
+        sources-length = sources-length;
+        cores-length = cores-length;
+        configured-source = λ i h. (fit i h .0) .configured;
+        request-range = λ i h. (fit i h .0) .request;
+        idle-source = λ i h. (fit i h .0) .idle;
+        configured-core = λ j h. (sound j h) .fits .configured;
+        empty-box = λ j h. (sound j h) .fits .empty;
+        spare-source = λ i h g. spare-sources i g h;
+        spare-core = λ j h g. spare-cores j g h;
+        backed = λ j h. (sound j h) .backed;
+        distinct = λ i j g h p q f.
+            sources-apart s .0 (λ j h. (sound j h) .apart) i j g h (record { left = p; right = q; source = f });
+        clean = λ j h. (sound j h) .clean;
+        candidates-settled = λ i j g h f. omega (arith, fit i g .1 f, l .le j (omega arith));
+        covered-settled = λ i j g h f. omega (arith, b .ge i (omega arith) f, l .le j (omega arith));
+      }
