@@ -9,6 +9,12 @@ pub mod Retract
 pub mod Reach
 pub mod Next
 pub mod Run
+pub mod Forward
+pub mod Keys
 pub mod Deliveries
 pub mod Retractions
+pub mod Retracting
 pub mod Ends
+pub mod Keyed
+pub mod Stores
+pub mod DeliveryLoop

@@ -1,6 +1,8 @@
 -- What the next cycle does, and why: the case that `next s` is in. Assumes nothing.
 --   Next s         at rest, a retraction of a dirty box, or a delivery of a highest candidate to a least core
 --   next-cases s   one of the three
+--   next-retract   a dirty box with no dirty box before it is the next to be retracted
+--   next-clean     with no box dirty, arbitration says what is next
 use Prim.Native.Nat.{ℕ, zero, suc, _<_, _≤_}
 use mathlib.Core.Path.{_≡_, refl}
 use mathlib.Core.List.{List}
@@ -70,17 +72,17 @@ pub data Next (s : Controller) : Type 0 where
   retracting : (k : ℕ) → next s ≡ Retract (coreId k) → k < s .m → dirtyAt (s .cores) k ≡ true → Next s
   arbitrating : (i k : ℕ) → next s ≡ Deliver (sourceId (suc i)) (coreId k) → Clean (s .cores) (s .m) → Contest s i k → Next s
 
-abbrev topSource : Controller → ℕ
+abbrev pub topSource : Controller → ℕ
 topSource s = highest (s .sources) (s .n)
 
-abbrev lowCore : Controller → ℕ
+abbrev pub lowCore : Controller → ℕ
 lowCore s = least (s .cores) (s .m)
 
-abbrev interrupts : Controller → Bool
+abbrev pub interrupts : Controller → Bool
 interrupts s = interruptedBy (coreAt s (lowCore s)) (sourceAt s (topSource s))
 
 module _ (s : Controller) (some-source : 1 ≤ s .n) (some-core : 1 ≤ s .m) where
-  contest : interrupts s ≡ true → Contest s (topSource s) (lowCore s)
+  pub contest : interrupts s ≡ true → Contest s (topSource s) (lowCore s)
   contest e =
       record {
         source-in = highest-below (s .sources) (s .n) some-source;
@@ -116,3 +118,35 @@ module _ (s : Controller) (some-source : 1 ≤ s .n) (some-core : 1 ≤ s .m) wh
       go (missed p c) (on e) =
           arbitrating (topSource s) (lowCore s) (rw (le-ltb w (s .m) (omega arith), e)) c (contest e)
       go (missed p c) (off e) = resting (rw (le-ltb w (s .m) (omega arith), e)) c (settled e)
+
+-- ---- the first dirty box is the next to be retracted
+
+module _ (s : Controller) (k : ℕ) (h : k < s .m) (clean : Clean (s .cores) k) (dirty : dirtyAt (s .cores) k ≡ true) where
+  first-is : firstDirty (s .cores) (s .m) ≡ k
+  first-is = go (first-cases (s .cores) (s .m)) (decLt w k) (decLt k w)
+    where
+      w : ℕ
+      w = firstDirty (s .cores) (s .m)
+
+      go : First (s .cores) (s .m) w → Dec (w < k) → Dec (k < w) → w ≡ k
+      go (found p e c) (yes q) d = clash e (clean w q)
+      go (found p e c) (no q) (yes u) = clash dirty (c k u)
+      go (found p e c) (no q) (no u) = omega arith
+      go (missed p c) d d′ = clash dirty (c k h)
+
+  pub next-retract : next s ≡ Retract (coreId k)
+  unfolding next
+  next-retract = rw (first-is, lt-ltb k (s .m) h)
+
+-- ---- with no box dirty, arbitration
+
+pub next-clean : (s : Controller) → Clean (s .cores) (s .m) → next s ≡ arbitrate s (topSource s) (lowCore s)
+unfolding next
+next-clean s clean = go (first-cases (s .cores) (s .m))
+  where
+    w : ℕ
+    w = firstDirty (s .cores) (s .m)
+
+    go : First (s .cores) (s .m) w → next s ≡ arbitrate s (topSource s) (lowCore s)
+    go (found p e c) = clash e (clean w p)
+    go (missed p c) = rw (le-ltb w (s .m) (omega arith))

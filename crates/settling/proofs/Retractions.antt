@@ -28,11 +28,11 @@ abbrev dirtyBoxes : Controller → ℕ
 dirtyBoxes s = reached (s .m) 1 (mark s)
 
 -- with no box dirty none is filled
-clean-delivering : {s : Controller} → AllDirty s → Clean (s .cores) (s .m) → Delivering s
+pub clean-delivering : {s : Controller} → AllDirty s → Clean (s .cores) (s .m) → Delivering s
 clean-delivering all clean = record { clean = clean; covered = λ j k p q e. clash (all j p e) (clean j p) }
 
 module _ (s : Controller) (c : Consistent s) (k : ℕ) (h : k < s .m) (dirty : (coreAt s k) .message .dirty ≡ true) where
-  dirty-filled : (coreAt s k) .message .filled ≡ true
+  pub dirty-filled : (coreAt s k) .message .filled ≡ true
   dirty-filled = go (flag ((coreAt s k) .message .filled))
     where
       go : Flag ((coreAt s k) .message .filled) → (coreAt s k) .message .filled ≡ true

@@ -1,6 +1,7 @@
 -- A run of cycles, one cycle at a time: what it needs to end well at rest. Assumes nothing.
 --   Ended s f r d   f cycles from s end in a sound state at rest, with at most r retractions and d deliveries, and no request claimed or let go
---   ended-here      a state at rest stays as it is, for any number of cycles
+--   settle-rest     at rest the state stays as it is; `count-rest`: and nothing is counted
+--   ended-here      so a state at rest has ended, for any number of cycles
 --   ended-step      one cycle more in front
 --   ended-within    larger bounds
 use Prim.Native.Nat.{ℕ, zero, suc, _+_, _<_, _≤_}
@@ -20,19 +21,19 @@ pub record Ended (s : Controller) (f r d : ℕ) : Type 0 where
   pub deliveries : countOf isDelivery f s ≤ d
   pub claimed-kept : (i : ℕ) → i < s .n → claimed (settle f s) i ≡ claimed s i
 
-cycle-is : (s : Controller) (c : Cycle) → next s ≡ c → cycle s ≡ apply c s
+pub cycle-is : (s : Controller) (c : Cycle) → next s ≡ c → cycle s ≡ apply c s
 unfolding cycle
 cycle-is s c e = rw e
 
 -- ---- at rest
 
 module _ (s : Controller) (rest : next s ≡ Rest) where
-  settle-rest : (f : ℕ) → settle f s ≡ s
+  pub settle-rest : (f : ℕ) → settle f s ≡ s
   unfolding settle
   settle-rest zero = refl
   settle-rest (suc f) = rw (cycle-is s Rest rest) (settle-rest f)
 
-  count-rest : (kind : Cycle → ℕ) → kind Rest ≡ 0 → (f : ℕ) → countOf kind f s ≡ 0
+  pub count-rest : (kind : Cycle → ℕ) → kind Rest ≡ 0 → (f : ℕ) → countOf kind f s ≡ 0
   unfolding countOf
   count-rest kind e zero = refl
   count-rest kind e (suc f) = rw (cycle-is s Rest rest, rest, e) (omega (arith, count-rest kind e f))

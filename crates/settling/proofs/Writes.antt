@@ -82,14 +82,14 @@ module _ (b : MessageBox) (j : ℕ) where
       go (yes n) = rw (putBackAt-named r n)
       go (no q) = rw (putBackAt-unnamed r q) e
 
-source-putBack : (b : MessageBox) (l : List Source) (j : ℕ) → getD (putBack b l) j noSource ≡ putBackAt b j (getD l j noSource)
+pub source-putBack : (b : MessageBox) (l : List Source) (j : ℕ) → getD (putBack b l) j noSource ≡ putBackAt b j (getD l j noSource)
 source-putBack b l j = go (flag (b .filled))
   where
     go : Flag (b .filled) → getD (putBack b l) j noSource ≡ putBackAt b j (getD l j noSource)
     go (on p) = rw p (changed-at (withDelivered false) noSource refl l (indexOf (b .source)) j)
     go (off p) = rw p
 
-length-putBack : (b : MessageBox) (l : List Source) → length (putBack b l) ≡ length l
+pub length-putBack : (b : MessageBox) (l : List Source) → length (putBack b l) ≡ length l
 length-putBack b l = go (flag (b .filled))
   where
     go : Flag (b .filled) → length (putBack b l) ≡ length l

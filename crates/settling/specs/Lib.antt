@@ -1,2 +1,3 @@
--- Helpers of the proofs. Nothing here needs to be believed.
+-- Helpers of the proofs and of this crate's contracts. Nothing here needs to be believed.
 pub mod Phases
+pub mod Runs
