@@ -101,7 +101,7 @@ module _ (s : Controller) (c : Consistent s) (k : ℕ) (k-lt : k < s .m) (filled
       }
 
   -- the claimed core was interrupted by its box, at the priority that it rises to
-  current-same : (j : ℕ) → currentPriority (getD (claimedCores s k) j noCore) ≡ currentPriority (coreAt s j)
+  pub current-same : (j : ℕ) → currentPriority (getD (claimedCores s k) j noCore) ≡ currentPriority (coreAt s j)
   current-same j = read-claimed (λ d. currentPriority d ≡ currentPriority (coreAt s j)) j (λ e. rw (e, filled)) refl
 
   pub claimed-delivering : Delivering s → Delivering (withCores s (claimedCores s k))

@@ -9,3 +9,9 @@ pub mod Kept
 pub mod Refusals
 pub mod Owners
 pub mod Changes
+pub mod Answering
+pub mod AtRest
+pub mod SourceAnswers
+pub mod Refusing
+pub mod CoreAnswers
+pub mod CoreLoops

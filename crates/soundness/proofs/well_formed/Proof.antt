@@ -81,7 +81,7 @@ returns-3 : tie.Need-returns-3 Inv-loop μ-loop
 returns-3 c = refuted (c .before .before .before .before .before) (λ o. omega (arith, (o .backed (c .before .if3 .taken)) .some-id))
 
 returns-4 : tie.Need-returns-4 Inv-loop μ-loop
-returns-4 c = refuted (c .before .before .before .before .before .before) (λ o. omega (arith, (o .backed (c .before .before .if3 .taken)) .id-le))
+returns-4 c = refuted (c .before .before .before .before .before .before) (λ o. omega (arith, (o .backed (c .before .before .if3 .taken)) .id-le, in-range (c .before .before .before .before .before .before .before .before .before)))
 
 cast-at : tie.Need-cast-at Inv-loop μ-loop
 cast-at c = search needs
