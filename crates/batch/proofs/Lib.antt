@@ -1,0 +1,4 @@
+-- What is proved here, for the crates above.
+pub mod Decoding
+pub mod Encoding
+pub mod Strict

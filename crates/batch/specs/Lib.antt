@@ -1,0 +1,2 @@
+-- What is claimed of a list of commands as numbers.
+pub mod Statements
