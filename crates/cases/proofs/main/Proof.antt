@@ -1,0 +1,126 @@
+-- `cases::main` is safe and ends. The loop's invariant: i is at most the number of rows. Assumes nothing.
+use Prim.Native.Nat.{_≤_, _-_}
+use borrow.Author.Needs.{needs}
+use Rattle.cases.proofs.main.Statement.{statement}
+use Rattle.cases.proofs.main.Tie as tie
+
+abbrev Inv-loop : tie.InvT-loop
+Inv-loop s₀ i₀ s i = i ≤ 54
+
+abbrev μ-loop : tie.MeasureT-loop
+μ-loop s₀ i₀ s i = 54 - i
+
+start-requires : tie.Need-start-requires Inv-loop μ-loop
+start-requires c κs = search needs
+
+loop-holds : tie.Need-loop-holds Inv-loop μ-loop
+loop-holds c = search needs
+
+mul-row : tie.Need-mul-row Inv-loop μ-loop
+mul-row c = search needs
+
+add-kind : tie.Need-add-kind Inv-loop μ-loop
+add-kind c = search needs
+
+mul-kind : tie.Need-mul-kind Inv-loop μ-loop
+mul-kind c = search needs
+
+array-read-kind : tie.Need-array-read-kind Inv-loop μ-loop
+array-read-kind c = search needs
+
+add-at : tie.Need-add-at Inv-loop μ-loop
+add-at c = search needs
+
+mul-at : tie.Need-mul-at Inv-loop μ-loop
+mul-at c = search needs
+
+array-read-at : tie.Need-array-read-at Inv-loop μ-loop
+array-read-at c = search needs
+
+add-priority : tie.Need-add-priority Inv-loop μ-loop
+add-priority c = search needs
+
+mul-priority : tie.Need-mul-priority Inv-loop μ-loop
+mul-priority c = search needs
+
+array-read-priority : tie.Need-array-read-priority Inv-loop μ-loop
+array-read-priority c = search needs
+
+mul-label : tie.Need-mul-label Inv-loop μ-loop
+mul-label c = search needs
+
+array-read-label : tie.Need-array-read-label Inv-loop μ-loop
+array-read-label c = search needs
+
+label-requires : tie.Need-label-requires Inv-loop μ-loop
+label-requires c κs = search needs
+
+command-requires : tie.Need-command-requires Inv-loop μ-loop
+command-requires c κs = search needs
+
+command-requires-2 : tie.Need-command-requires-2 Inv-loop μ-loop
+command-requires-2 c κs = search needs
+
+execute-requires : tie.Need-execute-requires Inv-loop μ-loop
+execute-requires c κs = search needs
+
+answer-requires : tie.Need-answer-requires Inv-loop μ-loop
+answer-requires c κs = search needs
+
+start-requires-2 : tie.Need-start-requires-2 Inv-loop μ-loop
+start-requires-2 c κs = search needs
+
+start-requires-3 : tie.Need-start-requires-3 Inv-loop μ-loop
+start-requires-3 c κs = search needs
+
+make-requires : tie.Need-make-requires Inv-loop μ-loop
+make-requires c κs = search needs
+
+making-requires : tie.Need-making-requires Inv-loop μ-loop
+making-requires c κs = search needs
+
+add-i : tie.Need-add-i Inv-loop μ-loop
+add-i c = search needs
+
+loop-less : tie.Need-loop-less Inv-loop μ-loop
+loop-less c = search needs
+
+loop-again : tie.Need-loop-again Inv-loop μ-loop
+loop-again c = search needs
+
+returns : tie.Need-returns Inv-loop μ-loop
+returns c = search needs
+
+pub main-spec : {M : Type 1} → statement M
+main-spec =
+    tie.close
+    (tie.spec
+    Inv-loop
+    μ-loop
+    start-requires
+    loop-holds
+    mul-row
+    add-kind
+    mul-kind
+    array-read-kind
+    add-at
+    mul-at
+    array-read-at
+    add-priority
+    mul-priority
+    array-read-priority
+    mul-label
+    array-read-label
+    label-requires
+    command-requires
+    command-requires-2
+    execute-requires
+    answer-requires
+    start-requires-2
+    start-requires-3
+    make-requires
+    making-requires
+    add-i
+    loop-less
+    loop-again
+    returns)
