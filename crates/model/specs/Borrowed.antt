@@ -1,13 +1,14 @@
 -- The two calls on records that the host lends, and what is claimed of them. Definitions only. Assumes nothing.
 -- Source: document 01, "Two further faces".
 --   foundIn l        position plus one of the first highest candidate of a lent list, 0 for none; a list of over 128 is refused by 2
+--   foundByWalk l    the same by the plain walk
 --   takenFrom c      the claim of one core record: 7 for an empty box, whatever else the record holds; 1 for a filled one that is bad
 -- A record's fields may hold anything: a candidate of priority 0 is a candidate.
-use Prim.Native.Nat.{ℕ, _<_}
+use Prim.Native.Nat.{suc, _<_}
 use mathlib.Core.Path.{_≡_}
 use mathlib.Core.List.{List}
 use mathlib.Core.Bool.{Bool, true, not, _&&_, cond}
-use lib.ListN.{length}
+use lib.ListN.{length, getD}
 use lib.Dec.{ltb, leb}
 use Rattle.model.specs.declared.CoreId.{CoreId}
 use Rattle.model.specs.declared.Source.{Source}
@@ -16,14 +17,23 @@ use Rattle.model.specs.declared.Controller.{Controller}
 use Rattle.model.specs.declared.Found.{Found}
 use Rattle.model.specs.declared.Taken.{Taken}
 use Rattle.model.specs.declared.Command.the-variants.{Claim}
-use Rattle.model.specs.Records.{maxSources, sourceId, coreAt, found, taken}
+use Rattle.model.specs.Records.{maxSources, noSource, sourceId, coreAt, found, taken}
 use Rattle.model.specs.Priorities.{topPriority}
-use Rattle.model.specs.Arbitration.{highestId}
+use Rattle.model.specs.Requests.{candidate}
+use Rattle.model.specs.Arbitration.{highestByWalk, highestId}
 use Rattle.model.specs.WellFormed.{between, WellFormed}
 use Rattle.model.specs.Commands.{claimedCore, malformed, badSize, nothingToClaim, execute}
 
 unfoldable pub foundIn : List Source → Found
 foundIn l = cond (leb (length l) maxSources) (found 0 (highestId l (length l))) (found badSize 0)
+
+unfoldable pub foundByWalk : List Source → Found
+foundByWalk l =
+    cond
+    (leb (length l) maxSources)
+    (found 0
+    (cond (candidate (getD l (highestByWalk l (length l)) noSource)) (suc (highestByWalk l (length l))) 0))
+    (found badSize 0)
 
 -- A filled box that can be claimed: id 1 to 128, priority 1 to 511 and above the configured one, not dirty.
 unfoldable pub claimable : Core → Bool
@@ -39,7 +49,11 @@ takenFrom c =
     (cond (claimable c) (taken 0 (c .message .source) (claimedCore c)) (taken malformed (sourceId 0) c))
     (taken nothingToClaim (sourceId 0) c)
 
--- ---- statement
+-- ---- statements
+
+-- The comparator tree and the plain walk agree on every lent list.
+abbrev pub FoundIsWalk : Type 0
+FoundIsWalk = (l : List Source) → foundIn l ≡ foundByWalk l
 
 -- On a sound state the claim of core k's record gives what the command claim leaves there, with its number and id.
 abbrev pub LentClaimIsCommand : Type 0

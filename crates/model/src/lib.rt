@@ -1,5 +1,6 @@
 // The records of the interrupt controller, by value, and what is read off one record. What they mean is said in specs/.
 // Document 01, "The controller and its sources" and "What is held".
+// Records that a host lends are in C's layout (`repr(C)`).
 // Widths: ids, core numbers and priorities are u16, so that up to 1,023 sources with priorities up to 2,047 fit.
 
 ghost use mathlib.Core.Path.{_≡_};
@@ -15,12 +16,14 @@ pub const SOURCES: usize = 128;
 pub const CORES: usize = 32;
 
 // A source's id, 1 to n; 0 means none. Never a core number.
+#[repr(C)]
 pub struct SourceId(pub u16);
 
 // A core's number, 0 to m - 1. Never a source id.
 pub struct CoreId(pub u16);
 
 // One interrupt source, with at most one request.
+#[repr(C)]
 pub struct Source {
     // the priority of its next request
     pub configured: u16,
@@ -32,6 +35,7 @@ pub struct Source {
 }
 
 // Room for one delivered request. Document 01: "box".
+#[repr(C)]
 pub struct MessageBox {
     pub filled: bool,
     pub dirty: bool,
@@ -41,6 +45,7 @@ pub struct MessageBox {
 }
 
 // One core's interface to the controller.
+#[repr(C)]
 pub struct Core {
     pub configured: u16,
     pub message: MessageBox,
@@ -86,6 +91,7 @@ pub struct Ran {
 
 // What the search over a lent list answers: document 01's number, and the position plus one of the first highest candidate, 0 for
 // none.
+#[repr(C)]
 pub struct Found {
     pub number: u8,
     pub position: u16,
@@ -99,6 +105,7 @@ pub struct Taken {
 }
 
 // What the claim of a lent record answers.
+#[repr(C)]
 pub struct Claimed {
     pub number: u8,
     pub id: SourceId,

@@ -1,0 +1,2 @@
+-- Helpers of contracts; nothing here needs to be believed.
+pub mod Keys

@@ -1,0 +1,151 @@
+// The two calls on records that the host lends. Document 01, "Two further faces".
+ghost use Prim.Native.Nat.{_≤_};
+ghost use mathlib.Core.Path.{_≡_};
+ghost use Rattle.model.specs.Records.{maxSources, taken, claimedAs};
+ghost use Rattle.model.specs.Borrowed.{claimable as claimableCore, takenFrom, foundIn};
+ghost use Rattle.borrowed.specs.Keys.{readOf, PositionByKeys, FoundByKeys};
+use model::Claimed;
+use model::Core;
+use model::Found;
+use model::SOURCES;
+use model::Source;
+use model::SourceId;
+use model::Taken;
+
+// The top priority of 128 sources.
+const TOP: u16 = 511;
+
+// ---- the numbers for no
+
+const MALFORMED: u8 = 1;
+
+const TOO_LONG: u8 = 2;
+
+const NOTHING_TO_CLAIM: u8 = 7;
+
+// ---- the claim of one core record
+
+fn outcome(number: u8, id: SourceId, core: Core) -> Taken
+    ensures { λ r. ⌜ r ≡ taken number id core ⌝ }
+{
+    Taken { number, id, core }
+}
+
+// Whether a filled box can be claimed.
+// Rules out: "not above" read as "below" (`equal_priority_claimed`); a range cut short (`id_128_refused`, `top_of_127_sources`) or begun at
+// 0 (`priority_zero_claimed`); a dirty box claimed (`filled_for_dirty`).
+fn claimable(c: Core) -> bool
+    ensures { λ b. ⌜ b ≡ claimableCore c ⌝ }
+{
+    let b = c.message;
+    let id = b.source.0;
+    if id == 0 {
+        return false;
+    }
+    if id > SOURCES as u16 {
+        return false;
+    }
+    if b.priority == 0 {
+        return false;
+    }
+    if b.priority > TOP {
+        return false;
+    }
+    if b.priority <= c.configured {
+        return false;
+    }
+    !b.dirty
+}
+
+// The claim of a core record by value.
+// Rules out: 1 and 7 mixed up (`empty_refused_by_one`, `bad_refused_by_seven`); an id answered or the record altered by a refusal
+// (`id_with_a_refusal`, `refused_record_altered`); a box left filled, so that the next claim answers the same id (`record_left_filled`).
+pub fn take(c: Core) -> Taken
+    ensures { λ r. ⌜ r ≡ takenFrom c ⌝ }
+{
+    let b = c.message;
+    let after = model::claimed_core(c);
+    if !b.filled {
+        return outcome(NOTHING_TO_CLAIM, SourceId(0), c);
+    }
+    if !claimable(c) {
+        return outcome(MALFORMED, SourceId(0), c);
+    }
+    outcome(0, b.source, after)
+}
+
+// The same on a record that the host lends: it is taken apart, and written back also by a refusal, as it was.
+// Rules out: a record left as lent by a claim that is answered (`record_left_as_lent`), and what `take` rules out.
+#[no_mangle]
+pub extern "C" fn psic_claim_in_place(c: &mut Core) -> Claimed
+    ensures { λ r. ⌜ (r ≡ claimedAs (takenFrom (now (c .entry)))) × (now (c .exit) ≡ (takenFrom (now (c .entry))) .core) ⌝ }
+{
+    let t = take(*c);
+    *c = t.core;
+    Claimed {
+        number: t.number,
+        id: t.id,
+    }
+}
+
+// ---- the search over a lent list
+
+// How many records of a list are read: none of one that is too long.
+// Rules out: a list of 128 left unread (`list_of_128_unread`).
+fn read_of(len: usize) -> usize
+    ensures { λ r. ⌜ r ≡ readOf len ⌝ }
+{
+    if len <= SOURCES { len } else { 0 }
+}
+
+// The position plus one of the first highest of n keys, 0 if it is 0: rank 0 is no candidate.
+// Rules out: a candidate of priority 0 passed over (`priority_zero_passed_over`); a position counted from 0 (`position_from_zero`); a
+// record left out (`first_left_out`).
+fn position(keys: &[u32; SOURCES], n: usize) -> u16
+    requires { ⌜ n ≤ maxSources ⌝ }
+    ensures { λ r. ⌜ PositionByKeys (now (keys .entry)) n r ⌝ }
+{
+    if n == 0 {
+        return 0;
+    }
+    let at = arbitration::highest(keys, 0, n);
+    if keys[at] == 0 {
+        return 0;
+    }
+    at as u16 + 1
+}
+
+// The answer for a list of len records, from their ranks.
+// Rules out: a list of 128 refused (`length_128_refused`); a longer one refused by another number (`too_long_refused_by_one`).
+fn search(keys: &[u32; SOURCES], len: usize) -> Found
+    ensures { λ r. ⌜ FoundByKeys (now (keys .entry)) len r ⌝ }
+{
+    if len > SOURCES {
+        return Found {
+            number: TOO_LONG,
+            position: 0,
+        };
+    }
+    let at = position(keys, len);
+    Found {
+        number: 0,
+        position: at,
+    }
+}
+
+// The search over a list that the host lends: the ranks are copied out, and the comparator tree runs over them. Whatever the records
+// hold: the list's order decides a tie.
+#[no_mangle]
+pub extern "C" fn psic_highest_in(list: &[Source]) -> Found
+    ensures { λ r. ⌜ r ≡ foundIn (now (list .entry)) ⌝ }
+{
+    let len = list.len();
+    let n = read_of(len);
+    let mut keys = [0; SOURCES];
+    let mut i = 0;
+    while i < n {
+        keys[i] = model::rank(list[i]);
+        i += 1;
+    }
+    search(&keys, len)
+}
