@@ -1,0 +1,15 @@
+-- Laws that the proofs of reading and writing cite, and the round trip.
+--   Flags        the test of a state's bytes
+--   Reading      a state from its bytes, a record at a time
+--   Writing      a state's bytes, a record at a time
+--   Records      one record there and back
+--   Rows         records of one length in a row
+--   Octets       that bytes are below 256, and what is read from such
+--   RoundTrip    a state there and back
+pub mod Flags
+pub mod Reading
+pub mod Writing
+pub mod Records
+pub mod Rows
+pub mod Octets
+pub mod RoundTrip

@@ -1,0 +1,42 @@
+-- The bytes of a state and the room for answers. Assumes nothing.
+--   state-size     bytes that encode a state have its length
+--   sets-append    two runs of stores, one right behind the other, are one run
+--   no-state, not-whole, no-room, fits    whether a run of a list fits its buffers
+use Prim.Native.Nat.{ℕ, suc, _+_, _*_, _/_, _%_, _<_, _≤_}
+use mathlib.Core.Path.{_≡_, ap}
+use mathlib.Core.List.{List, [], _∷_, _++_}
+use mathlib.Core.Bool.{true, false, and-false}
+use lib.ListN.{length, set}
+use lib.Seq.{sets}
+use native.Mathlib.Omega.{arith}
+use borrow.Author.Tests.{eq-eqb, ne-eqb, le-leb, lt-leb, eqb-true}
+use Rattle.model.proofs.Bools.{and-l, and-in}
+use Rattle.model.specs.Bytes.{stateSize, isState, commandSize, answerSize, fitsRun}
+
+pub state-size : (b : List ℕ) → isState b ≡ true → length b ≡ stateSize
+unfolding isState
+state-size b e = eqb-true (length b) stateSize (and-l _ _ (and-l _ _ e))
+
+pub sets-append :
+    (b : List ℕ) (i j : ℕ) (xs ys : List ℕ) → j ≡ i + length xs → sets (sets b i xs) j ys ≡ sets b i (xs ++ ys)
+sets-append b i j [] ys e = ap (λ (k : ℕ). sets b k ys) (omega arith)
+sets-append b i j (x ∷ xs) ys e = sets-append (set b i x) (suc i) j xs ys (omega arith)
+
+-- ---- whether a run of a list fits its buffers
+
+module _ (b list answers : List ℕ) where
+  pub no-state : isState b ≡ false → fitsRun b list answers ≡ false
+  no-state e = rw e
+
+  pub not-whole : (length list % commandSize ≡ 0 → ⊥) → fitsRun b list answers ≡ false
+  not-whole h = simp (ne-eqb _ _ h, and-false)
+
+  pub no-room : length list % commandSize ≡ 0 → length answers < length list → fitsRun b list answers ≡ false
+  no-room e h =
+      let less : length answers < length list / commandSize * answerSize = omega arith in
+      simp (lt-leb _ _ less, and-false)
+
+  pub fits : isState b ≡ true → length list % commandSize ≡ 0 → length list ≤ length answers → fitsRun b list answers ≡ true
+  fits p e h =
+      let room : length list / commandSize * answerSize ≤ length answers = omega arith in
+      and-in (and-in p (eq-eqb _ _ e)) (le-leb _ _ room)

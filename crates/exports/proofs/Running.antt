@@ -1,0 +1,97 @@
+-- The run of a list of commands, a command at a time. Assumes nothing.
+--   Taken                     the commands before place i are taken: what is left of the list, run from the state reached, ends as the
+--                             whole list does from the start, and the answers of what is left, put behind those so far, give the
+--                             answers of the whole
+--   taken-none, taken-more    no command is taken; one more command is taken
+--   taken-all                 no command is left: what the run answers and writes
+use Prim.Native.Nat.{ℕ, _+_, _/_, _%_, _<_, _≤_}
+use mathlib.Core.Path.{_≡_, refl, sym, ap, _∙_}
+use mathlib.Core.List.{List, [], _∷_, _++_}
+use mathlib.Core.Bool.{true}
+use lib.ListN.{length, getD, drop}
+use lib.Seq.{sets, length-sets}
+use native.Mathlib.Omega.{arith}
+use Rattle.model.specs.declared.Controller.{Controller}
+use Rattle.model.specs.declared.Command.{Command}
+use Rattle.model.specs.declared.Answer.{Answer}
+use Rattle.model.specs.Commands.{execute, run}
+use Rattle.model.specs.Bytes.{stateFrom, stateBytes, isState, runCall, commandSize, commandsIn, answersTo, answerBytes, joined}
+use Rattle.exports.proofs.Commands.{commandAt, commands-more}
+use Rattle.exports.proofs.Buffers.{sets-append, fits}
+use Rattle.exports.proofs.Calls.{DoesRun}
+
+-- the commands from place i on, and the bytes of what they answer from a state
+abbrev pub left : List ℕ → ℕ → List Command
+left list i = commandsIn (drop i list)
+
+abbrev answersFrom : Controller → List Command → List ℕ
+answersFrom s cs = joined answerBytes (answersTo s cs)
+
+module _ (list answers₀ : List ℕ) (s₀ : Controller) where
+  pub record Taken (answers : List ℕ) (s : Controller) (i : ℕ) : Type 0 where
+    pub within : i ≤ length list
+    pub whole : length list % commandSize ≡ 0
+    pub place : i % commandSize ≡ 0
+    pub size : length answers ≡ length answers₀
+    pub room : length list ≤ length answers₀
+    pub counts : i / commandSize + length (left list i) ≡ length (commandsIn list)
+    pub runs : run s (left list i) ≡ run s₀ (commandsIn list)
+    pub written : sets answers i (answersFrom s (left list i)) ≡ sets answers₀ 0 (answersFrom s₀ (commandsIn list))
+
+  pub taken-none : length list % commandSize ≡ 0 → length list ≤ length answers₀ → Taken answers₀ s₀ 0
+  taken-none e h =
+      record {
+        within = omega arith;
+        whole = e;
+        place = refl;
+        size = refl;
+        room = h;
+        counts = omega arith;
+        runs = refl;
+        written = refl;
+      }
+
+  -- a place before the end has a whole command
+  pub more-left :
+      (answers : List ℕ) (s : Controller) (i : ℕ) → Taken answers s i → i < length list → i + commandSize ≤ length list
+  more-left answers s i t h = omega (arith, t .whole, t .place)
+
+  pub taken-more :
+      (answers answers′ : List ℕ) (s : Controller) (i : ℕ) (c : Command) (a : Answer) →
+      Taken answers s i → i < length list → getD list i 0 ≤ 7 →
+      c ≡ commandAt list i → a ≡ execute s c → answers′ ≡ sets answers i (answerBytes a) →
+      Taken answers′ (a .state) (i + commandSize)
+  unfolding run answersTo joined
+  taken-more answers answers′ s i c a t h k ec ea e =
+      let next : i + commandSize ≤ length list = more-left answers s i t h in
+      let rest = left list (i + commandSize) in
+      let commands : left list i ≡ c ∷ rest
+      = commands-more list i next (omega arith) ∙ ap (λ (x : Command). x ∷ rest) (sym ec) in
+      record {
+        within = next;
+        whole = t .whole;
+        place = omega (arith, t .place);
+        size = ap length e ∙ length-sets answers i (answerBytes a) ∙ t .size;
+        room = t .room;
+        counts = omega (arith, ap length commands, t .counts);
+        runs = ap (λ (x : Answer). run (x .state) rest) ea ∙ ap (run s) (sym commands) ∙ t .runs;
+        written =
+            ap (λ (b : List ℕ). sets b (i + commandSize) (answersFrom (a .state) rest)) e
+            ∙ sets-append answers i (i + commandSize) (answerBytes a) (answersFrom (a .state) rest) refl
+            ∙ ap (λ (x : Answer). sets answers i (answerBytes x ++ answersFrom (x .state) rest)) ea
+            ∙ ap (λ (cs : List Command). sets answers i (answersFrom s cs)) (sym commands)
+            ∙ t .written;
+      }
+
+pub taken-all :
+    (b list answers₀ : List ℕ) (s₀ : Controller) (answers b′ : List ℕ) (s : Controller) (i : ℕ) →
+    isState b ≡ true → s₀ ≡ stateFrom b →
+    Taken list answers₀ s₀ answers s i → left list i ≡ [] → b′ ≡ stateBytes s →
+    DoesRun (i / commandSize) b′ answers (runCall b list answers₀)
+unfolding runCall run answersTo joined
+taken-all b list answers₀ s₀ answers b′ s i eb es t none e =
+    let count : i / commandSize ≡ length (commandsIn list) = omega (arith, ap length none, t .counts) in
+    let reached : s ≡ run s₀ (commandsIn list) = sym (ap (run s) none) ∙ t .runs in
+    let written : answers ≡ sets answers₀ 0 (answersFrom s₀ (commandsIn list))
+    = sym (ap (λ (cs : List Command). sets answers i (answersFrom s cs)) none) ∙ t .written in
+    rw (fits b list answers₀ eb (t .whole) (t .room), ← es) (count, e ∙ ap stateBytes reached, written)

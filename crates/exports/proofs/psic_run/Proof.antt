@@ -1,0 +1,184 @@
+-- `exports::psic_run` meets its contract. The loop's invariant is `Taken`: the commands before i are taken, and what is left of the list ends
+-- as the whole does from the start. The measure is what is left of the length. Assumes nothing.
+use Prim.Native.Nat.{_-_}
+use lib.ListN.{length}
+use borrow.Author.Needs.{needs}
+use native.Mathlib.Omega.{arith}
+use mathlib.Core.Path.{_≡_, sym, _∙_}
+use mathlib.Core.List.{[]}
+use mathlib.Core.Bool.{true}
+use mathlib.Core.Logic.{⊎-elim}
+use borrow.Author.Tests.{not-true, not-false}
+use Rattle.model.specs.Bytes.{isState}
+use Rattle.exports.proofs.Commands.{command-read, commands-bad, commands-end}
+use Rattle.exports.proofs.Buffers.{state-size, no-state, not-whole, no-room}
+use Rattle.exports.proofs.Calls.{run-refused}
+use Rattle.exports.proofs.Running.{left, Taken, taken-none, more-left, taken-more, taken-all}
+use Rattle.exports.proofs.psic_run.Statement.{statement}
+use Rattle.exports.proofs.psic_run.Tie as tie
+
+abbrev Inv-loop : tie.InvT-loop
+Inv-loop state list answers₀ s₀ i₀ answers s i = Taken list answers₀ s₀ answers s i
+
+abbrev μ-loop : tie.MeasureT-loop
+μ-loop state list answers₀ s₀ i₀ answers s i = length list - i
+
+-- past the tests, the bytes encode a state
+readable :
+    (c : tie.Else3 Inv-loop μ-loop) →
+    isState (c .before .before .before .before .before .before .before .before .args .state .now) ≡ true
+readable c = let is = c .before .is-state in sym (is .ensures) ∙ not-false (is .result) (c .if3 .left)
+
+-- past the loop, no command is left: the list has ended, or the next number is above 7
+none-left :
+    (c : tie.Left-loop Inv-loop μ-loop) →
+    left (c .before .before .before .before .before .before .before .before .before .before .before .before .args .list .now)
+    (c .before .loop .i) ≡ []
+none-left c =
+    let a = c .before .before .before .before .before .before .before .before .before .before .before .before .args in
+    let l = c .before .loop in
+    let whole = more-left (a .list .now) (a .answers .now) (c .before .before .state-from .result) (l .answers) (l .s) (l .i) (l .inv) in
+    ⊎-elim (λ w. commands-end (a .list .now) (l .i) (w .left))
+    (λ w. commands-bad (a .list .now) (l .i) (whole (w .0 .taken)) (omega (arith, w .2 .taken)))
+    (c .loop-test .came)
+
+returns : tie.Need-returns Inv-loop μ-loop
+returns c =
+    let a = c .before .before .before .before .args in
+    run-refused (a .state .now) (a .list .now) (a .answers .now)
+    (not-whole (a .state .now) (a .list .now) (a .answers .now) (omega arith))
+
+returns-2 : tie.Need-returns-2 Inv-loop μ-loop
+returns-2 c =
+    let a = c .before .before .before .before .before .args in
+    run-refused (a .state .now) (a .list .now) (a .answers .now)
+    (no-room (a .state .now) (a .list .now) (a .answers .now) (c .before .if1 .left) (omega arith))
+
+is-state-requires : tie.Need-is-state-requires Inv-loop μ-loop
+is-state-requires c κs = search needs
+
+same-length : tie.Need-same-length Inv-loop μ-loop
+same-length c = omega arith
+
+returns-3 : tie.Need-returns-3 Inv-loop μ-loop
+returns-3 c =
+    let a = c .before .before .before .before .before .before .before .before .args in
+    let is = c .before .is-state in
+    run-refused (a .state .now) (a .list .now) (a .answers .now)
+    (no-state (a .state .now) (a .list .now) (a .answers .now) (sym (is .ensures) ∙ not-true (is .result) (c .if3 .taken)))
+
+state-from-requires : tie.Need-state-from-requires Inv-loop μ-loop
+state-from-requires c κs =
+    state-size (c .before .before .before .before .before .before .before .before .before .args .state .now) (readable (c .before))
+
+loop-holds : tie.Need-loop-holds Inv-loop μ-loop
+loop-holds c =
+    let a = c .before .before .before .before .before .before .before .before .before .before .args in
+    let tested = c .before .before .before .before .before in
+    taken-none (a .list .now) (a .answers .now) (c .state-from .result) (tested .before .if1 .left) (tested .if2 .left)
+
+shared-slice-read-kind : tie.Need-shared-slice-read-kind Inv-loop μ-loop
+shared-slice-read-kind c = omega arith
+
+cast-command : tie.Need-cast-command Inv-loop μ-loop
+cast-command c = omega arith
+
+add-word-at : tie.Need-add-word-at Inv-loop μ-loop
+add-word-at c = omega arith
+
+word-at-requires : tie.Need-word-at-requires Inv-loop μ-loop
+word-at-requires c κs = search needs
+
+add-word-at-2 : tie.Need-add-word-at-2 Inv-loop μ-loop
+add-word-at-2 c = omega arith
+
+word-at-requires-2 : tie.Need-word-at-requires-2 Inv-loop μ-loop
+word-at-requires-2 c κs = search needs
+
+command-requires : tie.Need-command-requires Inv-loop μ-loop
+command-requires c κs = search needs
+
+execute-requires : tie.Need-execute-requires Inv-loop μ-loop
+execute-requires c κs = search needs
+
+put-answer-requires : tie.Need-put-answer-requires Inv-loop μ-loop
+put-answer-requires c κs = search needs
+
+add-i : tie.Need-add-i Inv-loop μ-loop
+add-i c =
+    let turn = c .before .before .before .before .before .before .before .before .before .before .before in
+    let at = turn .before in
+    let start = at .before .before .before .before .before .before .before .before .before .before .before in
+    omega (arith, turn .loop-test .taken, at .loop .inv .whole, at .loop .inv .place, start .good)
+
+loop-less : tie.Need-loop-less Inv-loop μ-loop
+loop-less c = omega arith
+
+loop-again : tie.Need-loop-again Inv-loop μ-loop
+loop-again c =
+    let put = c .before .before .before .put-answer in
+    let called = c .before .before .before .before .before in
+    let command = called .before .command in
+    let priority = called .before .before .word-at2 in
+    let target = called .before .before .before .word-at in
+    let tested = called .before .before .before .before in
+    let at = tested .before .before .before in
+    let a = at .before .before .before .before .before .before .before .before .before .before .before .args in
+    let l = at .loop in
+    let read = command-read (a .list .now) (l .i) (target .result) (priority .result) (command .result)
+    (target .ensures) (priority .ensures) (command .ensures) in
+    taken-more (a .list .now) (a .answers .now) (at .before .state-from .result) (l .answers) (put .last .0) (l .s) (l .i)
+    (command .result) (called .execute .result) (l .inv) (tested .before .before .loop-test .taken) (tested .if4 .left)
+    read (called .execute .ensures) (put .ensures)
+
+put-state-requires : tie.Need-put-state-requires Inv-loop μ-loop
+put-state-requires c κs =
+    let tested = c .before .before .before .before .before in
+    state-size (tested .before .before .before .before .before .before .before .before .args .state .now) (readable tested)
+
+same-length-2 : tie.Need-same-length-2 Inv-loop μ-loop
+same-length-2 c = omega arith
+
+same-length-3 : tie.Need-same-length-3 Inv-loop μ-loop
+same-length-3 c = omega arith
+
+returns-4 : tie.Need-returns-4 Inv-loop μ-loop
+returns-4 c =
+    let put = c .before .before .put-state in
+    let end = c .before .before .before .before in
+    let l = end .before .loop in
+    let given = end .before .before in
+    let tested = given .before .before in
+    let a = tested .before .before .before .before .before .before .before .before .args in
+    taken-all (a .state .now) (a .list .now) (a .answers .now) (given .state-from .result) (l .answers) (put .last .0) (l .s) (l .i)
+    (readable tested) (given .state-from .ensures) (l .inv) (none-left end) (put .ensures)
+
+pub psic-run-spec : {M : Type 1} → statement M
+psic-run-spec =
+    tie.close
+    (tie.spec
+    Inv-loop
+    μ-loop
+    returns
+    returns-2
+    is-state-requires
+    same-length
+    returns-3
+    state-from-requires
+    loop-holds
+    shared-slice-read-kind
+    cast-command
+    add-word-at
+    word-at-requires
+    add-word-at-2
+    word-at-requires-2
+    command-requires
+    execute-requires
+    put-answer-requires
+    add-i
+    loop-less
+    loop-again
+    put-state-requires
+    same-length-2
+    same-length-3
+    returns-4)

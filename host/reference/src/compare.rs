@@ -1,0 +1,280 @@
+//! Two models side by side on one workload, and the first difference between them.
+
+use std::fmt;
+
+use crate::damage;
+use crate::generate::{self, History, Mix};
+use crate::model::Model;
+use crate::random::Random;
+use crate::records::{Answer, Command, Controller, Core, MessageBox, Source};
+use crate::well_formed::violated;
+
+/// A call that both models were put to.
+#[derive(Clone, Debug, PartialEq, Eq)]
+pub enum Call {
+    Make { n: u16, m: u16 },
+    Execute(Command),
+    HighestIn(Vec<Source>),
+    ClaimInPlace(Core),
+}
+
+/// The first difference between two models.
+#[derive(Clone, Debug, PartialEq, Eq)]
+pub struct Difference {
+    /// The seed of the workload.
+    pub seed: u64,
+    /// The part of the workload that the call belongs to.
+    pub part: String,
+    /// The call's position in that part; of a broken state, the state's position.
+    pub index: usize,
+    pub call: Call,
+    /// Each model's name and answer. A call that counts no cycles answers 0 of them.
+    pub left: (String, Answer),
+    pub right: (String, Answer),
+    /// The fields of the state or record handed back that differ, with both values.
+    pub fields: Vec<String>,
+}
+
+impl fmt::Display for Difference {
+    fn fmt(&self, f: &mut fmt::Formatter<'_>) -> fmt::Result {
+        writeln!(
+            f,
+            "seed {}, {}, index {}: {:?}",
+            self.seed, self.part, self.index, self.call
+        )?;
+        for (name, answer) in [&self.left, &self.right] {
+            writeln!(
+                f,
+                "  {name}: number {}, id {}, cycles {}",
+                answer.number, answer.id, answer.cycles
+            )?;
+        }
+        for field in &self.fields {
+            writeln!(f, "  {field}")?;
+        }
+        Ok(())
+    }
+}
+
+/// Two models and the seed of the workload they are put to.
+pub struct Comparison<'a, L: Model, R: Model> {
+    pub left: &'a L,
+    pub right: &'a R,
+    pub seed: u64,
+}
+
+/// Where a call stands in the workload.
+struct Place<'a> {
+    part: &'a str,
+    index: usize,
+}
+
+impl<L: Model, R: Model> Comparison<'_, L, R> {
+    /// Runs the whole workload that the seed determines: makings of any sizes, a history of this
+    /// length, broken states made from its end, and lent records.
+    pub fn round(&self, length: usize) -> Option<Difference> {
+        let mut random = Random::new(self.seed);
+        let (n, m) = generate::sizes(&mut random);
+        let mix = random.pick(&[Mix::Even, Mix::Busy]);
+        let history = generate::history(random.bits(), n, m, length, mix);
+        self.makings(&mut random)
+            .or_else(|| self.history(&history))
+            .or_else(|| self.broken_states(&mut random, &generate::final_state(&history)))
+            .or_else(|| self.borrowed_records(&mut random))
+    }
+
+    /// Makes 16 controllers, sizes in range and out of it.
+    pub fn makings(&self, random: &mut Random) -> Option<Difference> {
+        let part = "makings";
+        (0..16).find_map(|index| {
+            // Mostly a little over the largest sizes, now and then any numbers.
+            let (n, m) = match random.below(4) {
+                0 => (random.any(), random.any()),
+                _ => (random.within(0..=130), random.within(0..=34)),
+            };
+            self.make(Place { part, index }, n, m)
+        })
+    }
+
+    /// Runs a history from a fresh controller.
+    pub fn history(&self, history: &History) -> Option<Difference> {
+        let History { n, m, .. } = *history;
+        let part = &format!("history at n = {n}, m = {m}");
+        let made = self.make(Place { part, index: 0 }, n, m);
+        if made.is_some() {
+            return made;
+        }
+        let (_, mut left) = self.left.make(n, m);
+        let (_, mut right) = self.right.make(n, m);
+        let mut commands = history.commands.iter().enumerate();
+        commands.find_map(|(index, &command)| {
+            self.execute(Place { part, index }, &mut left, &mut right, command)
+        })
+    }
+
+    /// Puts one command of each kind to broken states made from a sound one.
+    pub fn broken_states(&self, random: &mut Random, sound: &Controller) -> Option<Difference> {
+        let mut states = damage::broken_states(random, sound).into_iter().enumerate();
+        states.find_map(|(index, state)| {
+            let part = &format!("state that violates {:?}", violated(&state));
+            let mut commands = generate::one_of_each(random, state.n, state.m).into_iter();
+            commands.find_map(|command| {
+                let mut left = self.left.load(&state);
+                let mut right = self.right.load(&state);
+                self.execute(Place { part, index }, &mut left, &mut right, command)
+            })
+        })
+    }
+
+    /// Puts both lent forms to 64 records each, of any content.
+    pub fn borrowed_records(&self, random: &mut Random) -> Option<Difference> {
+        let part = "lent records";
+        (0..64).find_map(|index| {
+            let sources = generate::borrowed_sources(random);
+            let core = generate::borrowed_core(random);
+            self.highest_in(Place { part, index }, &sources)
+                .or_else(|| self.claim_in_place(Place { part, index }, core))
+        })
+    }
+
+    fn make(&self, place: Place, n: u16, m: u16) -> Option<Difference> {
+        let (left_number, left) = self.left.make(n, m);
+        let (right_number, right) = self.right.make(n, m);
+        self.difference(
+            place,
+            || Call::Make { n, m },
+            without_cycles((left_number, 0)),
+            without_cycles((right_number, 0)),
+            differing_fields(&self.left.read(&left), &self.right.read(&right)),
+        )
+    }
+
+    fn execute(
+        &self,
+        place: Place,
+        left: &mut L::State,
+        right: &mut R::State,
+        command: Command,
+    ) -> Option<Difference> {
+        let left_answer = self.left.execute(left, command);
+        let right_answer = self.right.execute(right, command);
+        self.difference(
+            place,
+            || Call::Execute(command),
+            left_answer,
+            right_answer,
+            differing_fields(&self.left.read(left), &self.right.read(right)),
+        )
+    }
+
+    fn highest_in(&self, place: Place, sources: &[Source]) -> Option<Difference> {
+        self.difference(
+            place,
+            || Call::HighestIn(sources.to_vec()),
+            without_cycles(self.left.highest_in(sources)),
+            without_cycles(self.right.highest_in(sources)),
+            Vec::new(),
+        )
+    }
+
+    fn claim_in_place(&self, place: Place, lent: Core) -> Option<Difference> {
+        let (mut left, mut right) = (lent, lent);
+        let left_answer = self.left.claim_in_place(&mut left);
+        let right_answer = self.right.claim_in_place(&mut right);
+        let mut fields = Fields::default();
+        fields.core("core", &left, &right);
+        self.difference(
+            place,
+            || Call::ClaimInPlace(lent),
+            without_cycles(left_answer),
+            without_cycles(right_answer),
+            fields.differing,
+        )
+    }
+
+    fn difference(
+        &self,
+        place: Place,
+        call: impl FnOnce() -> Call,
+        left: Answer,
+        right: Answer,
+        fields: Vec<String>,
+    ) -> Option<Difference> {
+        if left == right && fields.is_empty() {
+            return None;
+        }
+        Some(Difference {
+            seed: self.seed,
+            part: place.part.to_string(),
+            index: place.index,
+            call: call(),
+            left: (self.left.name(), left),
+            right: (self.right.name(), right),
+            fields,
+        })
+    }
+}
+
+fn without_cycles((number, id): (u8, u16)) -> Answer {
+    Answer {
+        number,
+        id,
+        cycles: 0,
+    }
+}
+
+/// The fields in which two states differ, each with both values.
+pub fn differing_fields(left: &Controller, right: &Controller) -> Vec<String> {
+    let mut fields = Fields::default();
+    if left == right {
+        return fields.differing;
+    }
+    fields.field("n", left.n, right.n);
+    fields.field("m", left.m, right.m);
+    for (position, (left, right)) in left.sources.iter().zip(&right.sources).enumerate() {
+        fields.source(&format!("source {}", position + 1), left, right);
+    }
+    for (number, (left, right)) in left.cores.iter().zip(&right.cores).enumerate() {
+        fields.core(&format!("core {number}"), left, right);
+    }
+    fields.differing
+}
+
+#[derive(Default)]
+struct Fields {
+    differing: Vec<String>,
+}
+
+impl Fields {
+    fn field<T: PartialEq + fmt::Debug>(&mut self, name: &str, left: T, right: T) {
+        if left != right {
+            self.differing.push(format!("{name}: {left:?}, {right:?}"));
+        }
+    }
+
+    fn source(&mut self, name: &str, left: &Source, right: &Source) {
+        let of = |field: &str| format!("{name} {field}");
+        self.field(&of("configured"), left.configured, right.configured);
+        self.field(&of("masked"), left.masked, right.masked);
+        self.field(&of("pending"), left.pending, right.pending);
+        self.field(&of("delivered"), left.delivered, right.delivered);
+        self.field(&of("request"), left.request, right.request);
+    }
+
+    fn core(&mut self, name: &str, left: &Core, right: &Core) {
+        self.field(
+            &format!("{name} configured"),
+            left.configured,
+            right.configured,
+        );
+        self.message(&format!("{name} box"), &left.message, &right.message);
+    }
+
+    fn message(&mut self, name: &str, left: &MessageBox, right: &MessageBox) {
+        let of = |field: &str| format!("{name} {field}");
+        self.field(&of("filled"), left.filled, right.filled);
+        self.field(&of("dirty"), left.dirty, right.dirty);
+        self.field(&of("id"), left.id, right.id);
+        self.field(&of("priority"), left.priority, right.priority);
+    }
+}

@@ -1,0 +1,173 @@
+//! Demand 3, checked after one command: the cores show the m highest priorities there are.
+//!
+//! Only boxes and the cores' own current priorities are read from the state. All else is the
+//! ledger's.
+
+use std::cmp::Reverse;
+
+use crate::ledger::Ledger;
+use crate::records::{Answer, Controller, Core};
+
+/// A request that a placement may give to a core.
+#[derive(Clone, Copy, Debug, PartialEq, Eq)]
+struct Placeable {
+    id: u16,
+    priority: u16,
+}
+
+/// Checks demand 3 without trying placements, for any size. The ledger has the command entered.
+pub fn check(ledger: &Ledger, after: &Controller, answer: Answer) -> Result<(), String> {
+    let cores = cores_of(ledger, after);
+    let placeable = placeable(ledger, cores);
+    boxes_are_a_placement(ledger, cores, &placeable)?;
+    shows_the_highest(ledger, cores, &placeable)?;
+    let bound = 2 * ledger.cores.len();
+    if usize::from(answer.cycles) > bound {
+        return Err(format!("{} cycles, at most {bound} allowed", answer.cycles));
+    }
+    Ok(())
+}
+
+/// Tries every placement: sorted from the top, none is higher at any place. For small sizes.
+pub fn check_every_placement(ledger: &Ledger, after: &Controller) -> Result<(), String> {
+    let cores = cores_of(ledger, after);
+    let shown = from_the_top(cores.iter().map(Core::current_priority).collect());
+    let mut free: Vec<u16> = placeable(ledger, cores)
+        .iter()
+        .map(|request| request.priority)
+        .collect();
+    let mut higher = None;
+    for_every_placement(&ledger.cores, &mut free, &mut Vec::new(), &mut |current| {
+        let other = from_the_top(current.to_vec());
+        if other.iter().zip(&shown).any(|(other, shown)| other > shown) {
+            higher = Some(other);
+        }
+    });
+    match higher {
+        Some(higher) => Err(format!(
+            "the cores show {shown:?}, a placement gives {higher:?}"
+        )),
+        None => Ok(()),
+    }
+}
+
+/// The cores that the ledger knows of.
+fn cores_of<'a>(ledger: &Ledger, after: &'a Controller) -> &'a [Core] {
+    &after.cores[..ledger.cores.len()]
+}
+
+/// The requests whose priorities the collection holds: the open ones that lie in a box, and those
+/// that wait unmasked. An open request lies in a box if a filled box names it, else it waits.
+fn placeable(ledger: &Ledger, cores: &[Core]) -> Vec<Placeable> {
+    ledger
+        .open_requests()
+        .filter(|&(id, _, masked)| {
+            let boxed = cores
+                .iter()
+                .any(|core| core.message.filled && core.message.id == id.0);
+            boxed || !masked
+        })
+        .map(|(id, priority, _)| Placeable { id: id.0, priority })
+        .collect()
+}
+
+/// The boxes are a placement: a filled box has the id and priority of the request it places, no
+/// request is placed twice, a core given one has that request's priority as its current one, any
+/// other its configured one.
+fn boxes_are_a_placement(
+    ledger: &Ledger,
+    cores: &[Core],
+    placeable: &[Placeable],
+) -> Result<(), String> {
+    let mut placed = Vec::new();
+    for (number, core) in cores.iter().enumerate() {
+        let message = core.message;
+        let expected = if message.filled {
+            let request = Placeable {
+                id: message.id,
+                priority: message.priority,
+            };
+            if !placeable.contains(&request) {
+                return Err(format!("core {number} holds {request:?}, not an open one"));
+            }
+            if placed.contains(&request) {
+                return Err(format!("core {number} holds {request:?} a second time"));
+            }
+            placed.push(request);
+            request.priority
+        } else {
+            ledger.cores[number]
+        };
+        let current = core.current_priority();
+        if current != expected {
+            return Err(format!("core {number} is at {current}, not {expected}"));
+        }
+    }
+    Ok(())
+}
+
+/// The current priorities sorted from the top are the m highest of the collection: the cores'
+/// configured priorities and those of the placeable requests.
+fn shows_the_highest(
+    ledger: &Ledger,
+    cores: &[Core],
+    placeable: &[Placeable],
+) -> Result<(), String> {
+    let shown = from_the_top(cores.iter().map(Core::current_priority).collect());
+    let requests = placeable.iter().map(|request| request.priority);
+    let collection = from_the_top(ledger.cores.iter().copied().chain(requests).collect());
+    let highest = &collection[..cores.len()];
+    if shown != highest {
+        return Err(format!(
+            "the cores show {shown:?}, the highest are {highest:?}"
+        ));
+    }
+    Ok(())
+}
+
+/// Calls `visit` with the current priorities under every placement of the free requests, given by
+/// their priorities, on the cores, given by their configured priorities. `current` holds those of
+/// the cores that are decided on.
+fn for_every_placement(
+    configured: &[u16],
+    free: &mut Vec<u16>,
+    current: &mut Vec<u16>,
+    visit: &mut impl FnMut(&[u16]),
+) {
+    let Some(&own) = configured.get(current.len()) else {
+        visit(current);
+        return;
+    };
+    current.push(own);
+    for_every_placement(configured, free, current, visit);
+    current.pop();
+    for position in 0..free.len() {
+        let request = free.remove(position);
+        current.push(request);
+        for_every_placement(configured, free, current, visit);
+        current.pop();
+        free.insert(position, request);
+    }
+}
+
+fn from_the_top(mut priorities: Vec<u16>) -> Vec<u16> {
+    priorities.sort_unstable_by_key(|&priority| Reverse(priority));
+    priorities
+}
+
+#[cfg(test)]
+mod tests {
+    use super::for_every_placement;
+
+    /// Two cores and two requests have seven placements: none, four of one, two of both.
+    #[test]
+    fn every_placement_is_tried_once() {
+        let mut seen = Vec::new();
+        for_every_placement(&[0, 1], &mut vec![5, 6], &mut Vec::new(), &mut |current| {
+            seen.push(current.to_vec());
+        });
+        seen.sort();
+        let expected = [[0, 1], [0, 5], [0, 6], [5, 1], [5, 6], [6, 1], [6, 5]];
+        assert_eq!(seen, expected);
+    }
+}

@@ -1,0 +1,397 @@
+//! Histories of commands, and records to lend, each determined by a seed.
+
+use crate::random::Random;
+use crate::records::{
+    Command, Controller, Core, CoreNumber, MessageBox, Source, SourceId, MAX_PRIORITY, MAX_SOURCES,
+};
+use crate::reference::{self, top_priority};
+
+/// A list of commands put to a fresh controller.
+#[derive(Clone, Debug, PartialEq, Eq)]
+pub struct History {
+    pub seed: u64,
+    pub n: u16,
+    pub m: u16,
+    pub commands: Vec<Command>,
+}
+
+/// How often each kind of command comes.
+#[derive(Clone, Copy, Debug, PartialEq, Eq)]
+pub enum Mix {
+    /// Each kind alike.
+    Even,
+    /// Sources are unmasked first, and the kinds are weighed so that boxes stay filled.
+    Busy,
+}
+
+/// Makes a history. About one command in eight is refused: an argument out of range, or a command
+/// that doesn't fit the state.
+pub fn history(seed: u64, n: u16, m: u16, length: usize, mix: Mix) -> History {
+    let mut generator = Generator::new(seed, n, m, mix);
+    let commands = (0..length).map(|_| generator.command()).collect();
+    History {
+        seed,
+        n,
+        m,
+        commands,
+    }
+}
+
+/// The state that the reference model reaches by a history.
+pub fn final_state(history: &History) -> Controller {
+    let (_, mut controller) = reference::make(history.n, history.m);
+    for &command in &history.commands {
+        reference::execute(&mut controller, command);
+    }
+    controller
+}
+
+/// Sizes in range; the smallest, the largest and the ones where the top priority changes come
+/// often.
+pub fn sizes(random: &mut Random) -> (u16, u16) {
+    let n = match random.below(4) {
+        0 => random.pick(&[1, 2, 127, 128]),
+        1 => random.pick(&[3, 4, 7, 8, 15, 16, 31, 32, 63, 64]),
+        2 => random.within(1..=12),
+        _ => random.within(1..=128),
+    };
+    let m = match random.below(4) {
+        0 => random.pick(&[1, 2, 32]),
+        1 => random.within(1..=4),
+        _ => random.within(1..=32),
+    };
+    (n, m)
+}
+
+/// One command of each kind, arguments mostly in range for these sizes, which may be broken.
+pub fn one_of_each(random: &mut Random, n: u16, m: u16) -> [Command; 8] {
+    let mut id = || match random.below(8) {
+        0 => SourceId(random.any()),
+        _ => SourceId(random.within(1..=n.clamp(1, 128))),
+    };
+    let ids = [id(), id(), id(), id(), id(), id()];
+    let mut core = || match random.below(8) {
+        0 => CoreNumber(random.any()),
+        _ => CoreNumber(random.within(0..=m.clamp(1, 32) - 1)),
+    };
+    let cores = [core(), core()];
+    [
+        Command::SetSourcePriority(ids[0], random.within(0..=8)),
+        Command::Mask(ids[1]),
+        Command::Unmask(ids[2]),
+        Command::SetCorePriority(cores[0], random.within(0..=8)),
+        Command::Trigger(ids[3]),
+        Command::Claim(cores[1]),
+        Command::Redeliver(ids[4]),
+        Command::Complete(ids[5]),
+    ]
+}
+
+/// A list of source records to lend, whatever they hold. Lists longer than 128 come now and then.
+pub fn borrowed_sources(random: &mut Random) -> Vec<Source> {
+    let length = match random.below(8) {
+        0 => random.pick(&[0, 1, 2, MAX_SOURCES - 1, MAX_SOURCES]),
+        1 => random.pick(&[MAX_SOURCES + 1, 2 * MAX_SOURCES, 1000]),
+        _ => random.below(MAX_SOURCES + 1),
+    };
+    // A low spread makes ties; 0 and numbers above every top priority are lent too.
+    let spread = random.pick(&[0, 1, 3, MAX_PRIORITY, u16::MAX]);
+    let no_candidates = random.one_in(8);
+    (0..length)
+        .map(|_| Source {
+            configured: random.any(),
+            masked: no_candidates || random.one_in(4),
+            pending: random.flag(),
+            delivered: random.flag(),
+            request: random.within(0..=spread),
+        })
+        .collect()
+}
+
+/// A core record to lend, whatever it holds. Most are filled and near a good one.
+pub fn borrowed_core(random: &mut Random) -> Core {
+    let configured = match random.below(4) {
+        0 => random.any(),
+        _ => random.within(0..=MAX_PRIORITY),
+    };
+    let id = match random.below(4) {
+        0 => random.pick(&[0, 1, 128, 129, 256, 257, u16::MAX]),
+        1 => random.any(),
+        _ => random.within(1..=128),
+    };
+    let priority = match random.below(4) {
+        0 => random.pick(&[0, 1, MAX_PRIORITY, MAX_PRIORITY + 1, u16::MAX]),
+        1 => random.any(),
+        2 => configured
+            .wrapping_add(random.within(0..=2))
+            .wrapping_sub(1),
+        _ => random.within(1..=MAX_PRIORITY),
+    };
+    Core {
+        configured,
+        message: MessageBox {
+            filled: !random.one_in(6),
+            dirty: random.one_in(6),
+            id,
+            priority,
+        },
+    }
+}
+
+/// The kinds of command.
+#[derive(Clone, Copy)]
+enum Kind {
+    SetSourcePriority,
+    Mask,
+    Unmask,
+    SetCorePriority,
+    Trigger,
+    Claim,
+    Redeliver,
+    Complete,
+}
+
+const EVEN: [Kind; 8] = [
+    Kind::SetSourcePriority,
+    Kind::Mask,
+    Kind::Unmask,
+    Kind::SetCorePriority,
+    Kind::Trigger,
+    Kind::Claim,
+    Kind::Redeliver,
+    Kind::Complete,
+];
+
+/// Each kind as often as it is to come: triggers and completes outweigh claims, so that there are
+/// requests to deliver, and cores are set more often than claims raise them.
+const BUSY: [Kind; 16] = [
+    Kind::SetSourcePriority,
+    Kind::SetSourcePriority,
+    Kind::Mask,
+    Kind::Unmask,
+    Kind::Unmask,
+    Kind::SetCorePriority,
+    Kind::SetCorePriority,
+    Kind::SetCorePriority,
+    Kind::Trigger,
+    Kind::Trigger,
+    Kind::Trigger,
+    Kind::Trigger,
+    Kind::Claim,
+    Kind::Redeliver,
+    Kind::Complete,
+    Kind::Complete,
+];
+
+/// Draws commands with the reference model's state at hand, so that most of them are accepted.
+struct Generator {
+    random: Random,
+    controller: Controller,
+    mix: Mix,
+    /// The source priorities that this history uses. Few of them make equal priorities often.
+    palette: Vec<u16>,
+    /// Commands that come first.
+    opening: Vec<Command>,
+}
+
+impl Generator {
+    fn new(seed: u64, n: u16, m: u16, mix: Mix) -> Generator {
+        let mut random = Random::new(seed);
+        let palette = palette(&mut random, top_priority(n));
+        let mut opening = Vec::new();
+        if mix == Mix::Busy {
+            for id in (1..=n).map(SourceId).filter(|_| !random.one_in(8)) {
+                opening.push(Command::Unmask(id));
+            }
+        }
+        Generator {
+            random,
+            controller: Controller::reset(n, m),
+            mix,
+            palette,
+            opening,
+        }
+    }
+
+    fn command(&mut self) -> Command {
+        let command = if self.random.one_in(8) {
+            self.refused()
+        } else if let Some(command) = self.opening.pop() {
+            command
+        } else {
+            self.accepted()
+        };
+        reference::execute(&mut self.controller, command);
+        command
+    }
+
+    fn accepted(&mut self) -> Command {
+        loop {
+            let kind = match self.mix {
+                Mix::Even => self.random.pick(&EVEN),
+                Mix::Busy => self.random.pick(&BUSY),
+            };
+            if let Some(command) = self.fitting(kind) {
+                return command;
+            }
+        }
+    }
+
+    /// A command of this kind that the state accepts, if there is one.
+    fn fitting(&mut self, kind: Kind) -> Option<Command> {
+        let random = &mut self.random;
+        let controller = &self.controller;
+        let any_id = SourceId(random.within(1..=controller.n));
+        let any_core = CoreNumber(random.within(0..=controller.m - 1));
+        match kind {
+            Kind::SetSourcePriority => {
+                let priority = random.pick(&self.palette);
+                Some(Command::SetSourcePriority(any_id, priority))
+            }
+            Kind::Mask => Some(Command::Mask(any_id)),
+            Kind::Unmask => Some(Command::Unmask(any_id)),
+            Kind::SetCorePriority => {
+                let top = top_priority(controller.n);
+                // Mostly 0, and often on a core without a request: claims leave it high.
+                let empty = pick_core(random, controller, |core| !core.message.filled);
+                let core = match empty {
+                    Some(core) if random.flag() => core,
+                    _ => any_core,
+                };
+                let priority = match random.below(12) {
+                    0 => top,
+                    1 => random.within(0..=top),
+                    2 => random.pick(&self.palette),
+                    3 => random.pick(&self.palette) - 1,
+                    _ => 0,
+                };
+                Some(Command::SetCorePriority(core, priority))
+            }
+            Kind::Trigger => {
+                pick_source(random, controller, |source| !source.pending).map(Command::Trigger)
+            }
+            Kind::Claim => {
+                pick_core(random, controller, |core| core.message.filled).map(Command::Claim)
+            }
+            Kind::Redeliver => pick_claimed(random, controller, true).map(Command::Redeliver),
+            Kind::Complete => pick_claimed(random, controller, true).map(Command::Complete),
+        }
+    }
+
+    /// A command that is refused: an argument out of range, or one that doesn't fit the state.
+    fn refused(&mut self) -> Command {
+        loop {
+            let kind = self.random.pick(&EVEN);
+            let command = if self.random.flag() {
+                Some(self.out_of_range(kind))
+            } else {
+                self.unfitting(kind)
+            };
+            if let Some(command) = command {
+                return command;
+            }
+        }
+    }
+
+    /// A command of this kind with an argument out of range, or with two.
+    fn out_of_range(&mut self, kind: Kind) -> Command {
+        let random = &mut self.random;
+        let Controller { n, m, .. } = self.controller;
+        let top = top_priority(n);
+        // A good number plus 256 or 512 is good again if only the low bits are read.
+        let bad_id = match random.below(5) {
+            0 => 0,
+            1 => n + 1,
+            2 => 256 + random.within(1..=n),
+            3 => random.within(n + 1..=u16::MAX),
+            _ => u16::MAX,
+        };
+        let bad_core = match random.below(4) {
+            0 => m,
+            1 => 256 + random.within(0..=m - 1),
+            2 => random.within(m..=u16::MAX),
+            _ => u16::MAX,
+        };
+        let too_high = match random.below(4) {
+            0 => top + 1,
+            1 => 512 + random.within(1..=top),
+            2 => random.within(top + 1..=u16::MAX),
+            _ => u16::MAX,
+        };
+        let source_priority = random.pick(&[0, too_high]);
+        let bad_id = SourceId(bad_id);
+        let bad_core = CoreNumber(bad_core);
+        let good_id = SourceId(random.within(1..=n));
+        let good_core = CoreNumber(random.within(0..=m - 1));
+        match kind {
+            Kind::SetSourcePriority => match random.below(3) {
+                0 => Command::SetSourcePriority(bad_id, 1),
+                1 => Command::SetSourcePriority(good_id, source_priority),
+                _ => Command::SetSourcePriority(bad_id, source_priority),
+            },
+            Kind::SetCorePriority => match random.below(3) {
+                0 => Command::SetCorePriority(bad_core, 0),
+                1 => Command::SetCorePriority(good_core, too_high),
+                _ => Command::SetCorePriority(bad_core, too_high),
+            },
+            Kind::Mask => Command::Mask(bad_id),
+            Kind::Unmask => Command::Unmask(bad_id),
+            Kind::Trigger => Command::Trigger(bad_id),
+            Kind::Claim => Command::Claim(bad_core),
+            Kind::Redeliver => Command::Redeliver(bad_id),
+            Kind::Complete => Command::Complete(bad_id),
+        }
+    }
+
+    /// A command of this kind, arguments in range, that doesn't fit the state, if there is one.
+    fn unfitting(&mut self, kind: Kind) -> Option<Command> {
+        let random = &mut self.random;
+        let controller = &self.controller;
+        match kind {
+            Kind::Trigger => {
+                pick_source(random, controller, |source| source.pending).map(Command::Trigger)
+            }
+            Kind::Claim => {
+                pick_core(random, controller, |core| !core.message.filled).map(Command::Claim)
+            }
+            Kind::Redeliver => pick_claimed(random, controller, false).map(Command::Redeliver),
+            Kind::Complete => pick_claimed(random, controller, false).map(Command::Complete),
+            Kind::SetSourcePriority | Kind::Mask | Kind::Unmask | Kind::SetCorePriority => None,
+        }
+    }
+}
+
+/// One of the sources 1 to n that fit, if there is one. The sizes must be in range.
+pub(crate) fn pick_source(
+    random: &mut Random,
+    controller: &Controller,
+    fits: impl Fn(&Source) -> bool,
+) -> Option<SourceId> {
+    random.pick_if_any(controller.ids().filter(|&id| fits(controller.source(id))))
+}
+
+/// One of the cores 0 to m-1 that fit, if there is one. The sizes must be in range.
+pub(crate) fn pick_core(
+    random: &mut Random,
+    controller: &Controller,
+    fits: impl Fn(&Core) -> bool,
+) -> Option<CoreNumber> {
+    let numbers = controller.core_numbers();
+    random.pick_if_any(numbers.filter(|&core| fits(controller.core(core))))
+}
+
+/// One of the sources whose request is claimed, or one of the others, if there is one.
+fn pick_claimed(random: &mut Random, controller: &Controller, claimed: bool) -> Option<SourceId> {
+    let ids = controller.ids();
+    random.pick_if_any(ids.filter(|&id| controller.is_claimed(id) == claimed))
+}
+
+/// The source priorities of one history: all there are, a few, one alone, or the two ends.
+fn palette(random: &mut Random, top: u16) -> Vec<u16> {
+    match random.below(4) {
+        0 => (1..=top).collect(),
+        1 => (0..4).map(|_| random.within(1..=top)).collect(),
+        2 => vec![random.within(1..=top)],
+        _ => vec![1, top],
+    }
+}

@@ -1,0 +1,17 @@
+//! The host's side of PSIC, the interrupt controller of document 01.
+//!
+//! - [`records`], [`well_formed`] and [`mod@reference`] are the reference model.
+//! - [`ledger`] and [`demand3`] are document 01's book and the check of demand 3 against it.
+//! - [`random`], [`generate`] and [`damage`] make histories, broken states and records to lend.
+//! - [`model`] and [`compare`] run two models side by side on one workload.
+
+pub mod compare;
+pub mod damage;
+pub mod demand3;
+pub mod generate;
+pub mod ledger;
+pub mod model;
+pub mod random;
+pub mod records;
+pub mod reference;
+pub mod well_formed;

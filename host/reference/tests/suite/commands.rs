@@ -1,0 +1,222 @@
+//! What holds of every command.
+
+use psic_reference::damage;
+use psic_reference::generate::{self, Mix};
+use psic_reference::random::{run_seed, Random};
+use psic_reference::records::{Answer, Command, Controller};
+use psic_reference::reference::execute;
+use psic_reference::well_formed::well_formed;
+
+use crate::histories::{
+    claim, complete, cycles_of, for_each_step, mask, random_histories, redeliver, set_core,
+    set_source, trigger, unmask, Run,
+};
+
+#[test]
+fn fresh_state_is_sound() {
+    for n in 1..=128 {
+        for m in 1..=32 {
+            assert!(well_formed(&Controller::reset(n, m)), "n = {n}, m = {m}");
+        }
+    }
+}
+
+#[test]
+fn every_command_keeps_the_state_sound() {
+    for history in random_histories(run_seed(), 100, 400) {
+        for_each_step(&history, |index, step| {
+            let place = format!("seed {}, index {index}", history.seed);
+            assert!(well_formed(step.after), "{place}: {:?}", step.command);
+        });
+    }
+}
+
+#[test]
+fn refused_command_changes_nothing() {
+    for history in random_histories(run_seed() ^ 1, 100, 400) {
+        for_each_step(&history, |index, step| {
+            let Answer { number, id, cycles } = step.answer;
+            if number != 0 {
+                let place = format!("seed {}, index {index}", history.seed);
+                assert_eq!((id, cycles), (0, 0), "{place}: {:?}", step.command);
+                assert_eq!(step.after, step.before, "{place}: {:?}", step.command);
+            }
+        });
+    }
+}
+
+/// Sound states that no run need reach: fields are changed as long as the state stays sound.
+#[test]
+fn every_command_keeps_any_sound_state_sound() {
+    let mut random = Random::new(run_seed());
+    for _ in 0..60 {
+        let (n, m) = generate::sizes(&mut random);
+        let history = generate::history(random.bits(), n, m, 200, Mix::Busy);
+        let mut sound = generate::final_state(&history);
+        for _ in 0..200 {
+            let away = damage::one_field_away(&mut random, &sound);
+            if !well_formed(&away) {
+                continue;
+            }
+            sound = away;
+            for command in generate::one_of_each(&mut random, n, m) {
+                let mut after = sound.clone();
+                execute(&mut after, command);
+                assert!(well_formed(&after), "{command:?} on {sound:?}");
+            }
+        }
+    }
+}
+
+#[test]
+fn cycles_at_most_2m_and_at_most_m_of_each() {
+    for history in random_histories(run_seed() ^ 2, 100, 400) {
+        for_each_step(&history, |index, step| {
+            let place = format!("seed {}, index {index}", history.seed);
+            assert!(step.answer.cycles <= 2 * history.m, "{place}");
+            if step.answer.number == 0 {
+                let (retractions, deliveries) = cycles_of(step.before, step.command);
+                assert!(retractions <= history.m, "{place}");
+                assert!(deliveries <= history.m, "{place}");
+                assert_eq!(step.answer.cycles, retractions + deliveries, "{place}");
+            }
+        });
+    }
+}
+
+#[test]
+fn cycles_of_2m_are_reached() {
+    let mut run = Run::table();
+    run.accept(trigger(3));
+    run.accept(trigger(4));
+    run.settles(set_core(0, 0), 4, [4, 3]);
+}
+
+#[test]
+fn only_claim_answers_an_id() {
+    for history in random_histories(run_seed() ^ 3, 50, 400) {
+        for_each_step(&history, |index, step| {
+            let claimed = matches!(step.command, Command::Claim(_)) && step.answer.number == 0;
+            let place = format!("seed {}, index {index}", history.seed);
+            assert_eq!(step.answer.id != 0, claimed, "{place}");
+        });
+    }
+}
+
+#[test]
+fn claim_makes_no_cycle() {
+    for history in random_histories(run_seed() ^ 4, 50, 400) {
+        for_each_step(&history, |index, step| {
+            if matches!(step.command, Command::Claim(_)) {
+                let place = format!("seed {}, index {index}", history.seed);
+                assert_eq!(step.answer.cycles, 0, "{place}");
+            }
+        });
+    }
+}
+
+#[test]
+fn tie_between_candidates_falls_to_the_lowest_id() {
+    let mut run = Run::table();
+    run.accept(set_core(0, 127));
+    run.accept(set_core(1, 127));
+    for id in [9, 7, 8] {
+        run.accept(set_source(id, 20));
+        run.accept(trigger(id));
+    }
+    run.settles(set_core(1, 0), 1, [127, 20]);
+    assert_eq!(run.boxes(), [0, 7]);
+}
+
+#[test]
+fn tie_between_cores_falls_to_the_lowest_number() {
+    let mut run = Run::table();
+    run.accept(set_core(0, 2));
+    run.accept(set_core(1, 2));
+    run.settles(trigger(4), 1, [4, 2]);
+}
+
+#[test]
+fn accepted_without_a_change() {
+    let mut run = Run::table();
+    for command in [unmask(4), unmask(4), mask(4), mask(4), set_source(4, 4)] {
+        run.settles(command, 0, [0, 0]);
+    }
+}
+
+#[test]
+fn complete_leaves_a_blank_request() {
+    let mut run = Run::table();
+    run.accept(trigger(4));
+    run.accept(claim(0));
+    run.accept(complete(4));
+    let source = run.source(4);
+    assert!(!source.pending && !source.delivered);
+    assert_eq!((source.request, source.configured), (0, 4));
+}
+
+#[test]
+fn redelivered_request_keeps_its_priority() {
+    let mut run = Run::table();
+    run.accept(trigger(4));
+    run.accept(set_source(4, 9));
+    run.accept(claim(0));
+    run.settles(redeliver(4), 1, [4, 4]);
+    assert_eq!(run.source(4).request, 4);
+}
+
+#[test]
+fn arguments_out_of_range_are_refused() {
+    let mut run = Run::table();
+    run.accept(trigger(4));
+    for id in [0, 33, 128, 129, 256, 260, 65535] {
+        for command in [
+            set_source(id, 1),
+            mask(id),
+            unmask(id),
+            trigger(id),
+            redeliver(id),
+            complete(id),
+        ] {
+            run.refuses(command, 4);
+        }
+    }
+    for core in [2, 31, 32, 256, 65535] {
+        run.refuses(set_core(core, 0), 3);
+        run.refuses(claim(core), 3);
+    }
+    for priority in [128, 255, 256, 384, 512, 65535] {
+        run.refuses(set_source(4, priority), 5);
+        run.refuses(set_core(0, priority), 5);
+    }
+}
+
+#[test]
+fn core_and_id_are_checked_before_the_priority() {
+    let mut run = Run::table();
+    run.refuses(set_source(0, 0), 4);
+    run.refuses(set_source(33, 128), 4);
+    run.refuses(set_core(2, 128), 3);
+}
+
+#[test]
+fn soundness_is_checked_before_the_arguments() {
+    let mut run = Run::table();
+    run.controller.cores[0].message.dirty = true;
+    for command in [set_source(0, 0), set_core(2, 128), trigger(33), claim(2)] {
+        run.refuses(command, 1);
+    }
+}
+
+#[test]
+fn only_claimed_requests_are_redelivered_or_completed() {
+    let mut run = Run::table();
+    run.accept(trigger(4));
+    run.accept(mask(5));
+    run.accept(trigger(5));
+    // 4 lies in a box, 5 waits, 6 isn't pending.
+    for id in [4, 5, 6] {
+        run.refuses(redeliver(id), 8);
+        run.refuses(complete(id), 8);
+    }
+}

@@ -1,0 +1,97 @@
+//! The comparison finds no difference where there is none, and one where there is.
+
+use psic_reference::compare::{Call, Comparison, Difference};
+use psic_reference::generate::{self, History, Mix};
+use psic_reference::model::{Model, Reference};
+use psic_reference::random::run_seeds;
+use psic_reference::well_formed::Clause;
+
+use crate::faulty::{Fault, Faulty};
+use crate::histories::{set_core, trigger, unmask};
+
+/// The first difference from the reference model within so many rounds.
+fn first_difference<M: Model>(model: &M, rounds: usize) -> Option<Difference> {
+    run_seeds(rounds).into_iter().find_map(|seed| {
+        let comparison = Comparison {
+            left: &Reference,
+            right: model,
+            seed,
+        };
+        comparison.round(300)
+    })
+}
+
+#[test]
+fn reference_agrees_with_itself() {
+    if let Some(difference) = first_difference(&Reference, 60) {
+        panic!("{difference}");
+    }
+}
+
+#[test]
+fn every_fault_is_found() {
+    for fault in Fault::ALL {
+        let found = first_difference(&Faulty { fault }, 60);
+        assert!(found.is_some(), "{fault:?}");
+    }
+}
+
+#[test]
+fn every_forgotten_clause_is_found() {
+    for clause in Clause::ALL {
+        let fault = Fault::Forgets(clause);
+        let found = first_difference(&Faulty { fault }, 60);
+        assert!(found.is_some(), "{fault:?}");
+    }
+}
+
+#[test]
+fn tie_to_the_higher_id_is_found_in_a_generated_history() {
+    let fault = Fault::TieToTheHigherId;
+    let found = run_seeds(20).into_iter().any(|seed| {
+        let comparison = Comparison {
+            left: &Reference,
+            right: &Faulty { fault },
+            seed,
+        };
+        let history = generate::history(seed, 8, 2, 300, Mix::Busy);
+        comparison.history(&history).is_some()
+    });
+    assert!(found);
+}
+
+#[test]
+fn difference_names_seed_index_command_answers_and_fields() {
+    let history = History {
+        seed: 77,
+        n: 2,
+        m: 1,
+        commands: vec![
+            unmask(1),
+            unmask(2),
+            set_core(0, 3),
+            trigger(1),
+            trigger(2),
+            set_core(0, 0),
+        ],
+    };
+    let comparison = Comparison {
+        left: &Reference,
+        right: &Faulty {
+            fault: Fault::TieToTheHigherId,
+        },
+        seed: history.seed,
+    };
+    let difference = comparison.history(&history).unwrap();
+    assert_eq!(difference.index, 5);
+    assert_eq!(difference.call, Call::Execute(set_core(0, 0)));
+    let expected = "\
+seed 77, history at n = 2, m = 1, index 5: Execute(SetCorePriority(CoreNumber(0), 0))
+  reference: number 0, id 0, cycles 1
+  TieToTheHigherId: number 0, id 0, cycles 1
+  source 1 delivered: true, false
+  source 2 delivered: false, true
+  core 0 box id: 1, 2
+";
+    assert_eq!(difference.to_string(), expected);
+}

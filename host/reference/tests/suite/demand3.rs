@@ -1,0 +1,170 @@
+//! Demand 3, held against the ledger.
+
+use psic_reference::demand3;
+use psic_reference::generate::{self, History, Mix};
+use psic_reference::ledger::{Ledger, Request};
+use psic_reference::model::{Model, Reference};
+use psic_reference::random::{run_seed, Random};
+use psic_reference::records::{Controller, MessageBox, SourceId};
+
+use crate::faulty::{Fault, Faulty};
+use crate::histories::{for_each_step, random_histories, set_source, trigger, unmask};
+
+/// Runs a history through a model and checks demand 3 after every command. Gives the index of the
+/// first command after which it doesn't hold, with the reason.
+fn first_breach<M: Model>(
+    model: &M,
+    history: &History,
+    every_placement: bool,
+) -> Option<(usize, String)> {
+    let (_, mut state) = model.make(history.n, history.m);
+    let mut ledger = Ledger::reset(history.n, history.m);
+    for (index, &command) in history.commands.iter().enumerate() {
+        let answer = model.execute(&mut state, command);
+        let after = model.read(&state);
+        let checked = ledger
+            .enter(command, answer.number, answer.id)
+            .and_then(|()| demand3::check(&ledger, &after, answer))
+            .and_then(|()| match every_placement {
+                true => demand3::check_every_placement(&ledger, &after),
+                false => Ok(()),
+            });
+        if let Err(reason) = checked {
+            return Some((index, reason));
+        }
+    }
+    None
+}
+
+fn assert_no_breach(history: &History, every_placement: bool) {
+    if let Some((index, reason)) = first_breach(&Reference, history, every_placement) {
+        panic!(
+            "n = {}, m = {}, seed {}, index {index}: {reason}",
+            history.n, history.m, history.seed
+        );
+    }
+}
+
+#[test]
+fn random_histories_of_small_sizes_with_every_placement() {
+    let mut random = Random::new(run_seed());
+    for n in 1..=4 {
+        for m in 1..=3 {
+            for mix in [Mix::Even, Mix::Busy] {
+                for _ in 0..20 {
+                    let history = generate::history(random.bits(), n, m, 500, mix);
+                    assert_no_breach(&history, true);
+                }
+            }
+        }
+    }
+}
+
+#[test]
+fn random_histories_of_any_size() {
+    for history in random_histories(run_seed() ^ 5, 150, 500) {
+        assert_no_breach(&history, false);
+    }
+}
+
+#[test]
+fn long_history_of_the_largest_size() {
+    let history = generate::history(run_seed(), 128, 32, 20_000, Mix::Busy);
+    assert_no_breach(&history, false);
+}
+
+#[test]
+fn ledger_agrees_with_the_records_of_the_state() {
+    for history in random_histories(run_seed() ^ 6, 50, 400) {
+        for_each_step(&history, |index, step| {
+            let place = format!("seed {}, index {index}", history.seed);
+            for (number, &configured) in step.ledger.cores.iter().enumerate() {
+                assert_eq!(configured, step.after.cores[number].configured, "{place}");
+            }
+            for (position, entry) in step.ledger.sources.iter().enumerate() {
+                let id = SourceId(position as u16 + 1);
+                let source = step.after.source(id);
+                let request = source.pending.then(|| Request {
+                    priority: source.request,
+                    claimed: step.after.is_claimed(id),
+                });
+                assert_eq!(entry.configured, source.configured, "{place}");
+                assert_eq!(entry.masked, source.masked, "{place}");
+                assert_eq!(entry.request, request, "{place}");
+            }
+        });
+    }
+}
+
+/// After T4's commands 5 and 4 are the two highest, on whichever core.
+#[test]
+fn higher_placement_is_found() {
+    let mut ledger = Ledger::reset(32, 2);
+    for command in t2_to_t4().commands {
+        ledger.enter(command, 0, 0).unwrap();
+    }
+    let mut controller = Controller::reset(32, 2);
+    for (boxes, highest) in [
+        ([4, 3], false),
+        ([3, 5], false),
+        ([4, 5], true),
+        ([5, 4], true),
+    ] {
+        for (core, id) in controller.cores.iter_mut().zip(boxes) {
+            core.message = MessageBox {
+                filled: true,
+                dirty: false,
+                id,
+                priority: id,
+            };
+        }
+        let checked = demand3::check_every_placement(&ledger, &controller);
+        assert_eq!(checked.is_ok(), highest, "{boxes:?}");
+    }
+}
+
+/// T2 to T4 with their setting: 4 at index 8, 3 at 9 and 5 at 10.
+fn t2_to_t4() -> History {
+    let mut commands = Vec::new();
+    for id in [2, 3, 4, 5] {
+        commands.extend([set_source(id, id), unmask(id)]);
+    }
+    commands.extend([trigger(4), trigger(3), trigger(5)]);
+    History {
+        seed: 0,
+        n: 32,
+        m: 2,
+        commands,
+    }
+}
+
+#[test]
+fn dummies_are_found() {
+    let cases = [
+        (Fault::HandsBackTheResetState, 8),
+        (Fault::ChangesNothing, 8),
+        (Fault::OnlySetsFlagsAfterTheFirstDelivery, 9),
+    ];
+    for (fault, index) in cases {
+        let breach = first_breach(&Faulty { fault }, &t2_to_t4(), false);
+        assert_eq!(breach.map(|(index, _)| index), Some(index), "{fault:?}");
+    }
+}
+
+#[test]
+fn faults_that_show_in_the_priorities_are_found() {
+    let faults = [
+        Fault::OnlyWrittenBoxDirty,
+        Fault::ConfiguredForRequest,
+        Fault::CompleteLowersTheCore,
+        Fault::BoxedRequestsComplete,
+    ];
+    let histories = random_histories(run_seed() ^ 7, 60, 300);
+    for fault in faults {
+        let model = Faulty { fault };
+        let found = histories
+            .iter()
+            .any(|history| first_breach(&model, history, false).is_some());
+        assert!(found, "{fault:?}");
+    }
+}

@@ -1,0 +1,13 @@
+//! Properties of the reference model, of the checks around it and of the comparison.
+
+mod borrowed;
+mod commands;
+mod comparison;
+mod demand3;
+mod every_history;
+mod faulty;
+mod generators;
+mod histories;
+mod sellers_errors;
+mod table_of_runs;
+mod well_formed;
