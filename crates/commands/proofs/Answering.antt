@@ -1,8 +1,12 @@
 -- From the tests that the code makes to the answer of the definition. Assumes nothing.
 -- The code asks `!test(..)`: w is what the test answered, `not w` what the branch looked at.
+--   failing, passing        what the branch says of the definition's test
+--   unnamed-zero, named-le  the test of an id
+--   makes-none, makes       the two answers of making
 --   at-state, at-check      a state that is not sound, a check that fails: the refusal's answer is the command's
 --   at-name                 the same for an id that names no source
 --   answers                 a command that passes answers its settled effect
+--   as-variant              an answer to the command that a `match` has found
 --   Addressed s id          a sound state and the id of one of its sources, as the first two tests of six commands find them
 use Prim.Native.Nat.{ℕ, suc, _-_, _<_, _≤_}
 use mathlib.Core.Path.{_≡_, sym, ap, _∙_}

@@ -2,17 +2,17 @@
 --   claim-rests    a claim leaves the state at rest: the core's current priority is the same before and after
 --   set-begins     what the retractions after set core priority require
 --   set-settles    the retractions and then the deliveries give the command's answer
-use Prim.Native.Nat.{ℕ, _+_, _*_, _-_, _<_, _≤_}
-use mathlib.Core.Path.{_≡_, refl, sym, ap, ap₂, _∙_}
+use Prim.Native.Nat.{ℕ, _+_, _*_, _-_}
+use mathlib.Core.Path.{_≡_, sym, ap, ap₂, _∙_}
 use mathlib.Core.List.{List}
-use mathlib.Core.Bool.{true, false, not}
+use mathlib.Core.Bool.{true}
 use native.Mathlib.Omega.{arith}
 use Rattle.model.specs.declared.CoreId.{CoreId}
 use Rattle.model.specs.declared.Core.{Core}
 use Rattle.model.specs.declared.Controller.{Controller}
 use Rattle.model.specs.declared.Answer.{Answer}
 use Rattle.model.specs.declared.Command.the-variants.{SetCorePriority, Claim}
-use Rattle.model.specs.Records.{maxCores, coreAt, withCores, withCore, answer}
+use Rattle.model.specs.Records.{coreAt, withCores, withCore, answer}
 use Rattle.model.specs.WellFormed.{wellFormed, WellFormed}
 use Rattle.model.specs.Settling.{settle, cyclesOf}
 use Rattle.model.specs.Commands.{claimedCore, effect, refusalOf, answeredId, settled, execute}
@@ -22,8 +22,8 @@ use Rattle.settling.specs.Phases.{Consistent, AllDirty, Delivering}
 use Rattle.settling.specs.Runs.{AfterRetractions, AfterDeliveries}
 use Rattle.settling.proofs.Next.{Settled}
 use Rattle.commands.proofs.Checked.{Checked, checked}
-use Rattle.commands.proofs.CoreEffects.{withCores-consistent, claimedCores, claimed-recored, claimed-delivering, current-same, setCores, set-recored, set-allDirty}
-use Rattle.commands.proofs.Effects.{wellFormed-consistent, wellFormed-delivering}
+use Rattle.commands.proofs.CoreEffects.{claimedCores, claimed-delivering, current-same, setCores, set-allDirty}
+use Rattle.commands.proofs.Effects.{wellFormed-consistent, wellFormed-delivering, effect-consistent}
 use Rattle.commands.proofs.Answering.{answers}
 use Rattle.commands.proofs.AtRest.{still, unmoved}
 
@@ -39,11 +39,11 @@ module _ (s : Controller) (k : CoreId) (sound : wellFormed s ≡ true) (passes :
   pub claim-rests : {d : Core} → d ≡ claimedCore (coreAt s (k .0)) → {r : Answer} → r ≡ answer (withCore s (k .0) d) 0 ((coreAt s (k .0)) .message .source .0) 0 → r ≡ execute s (Claim k)
   unfolding effect answeredId
   claim-rests new is =
-      let old : Consistent s = wellFormed-consistent s (wellFormed-out s sound) in
+      let w : WellFormed s = wellFormed-out s sound in
       let h : Checked s (Claim k) = checked s (Claim k) passes in
       let after : Controller = withCores s (claimedCores s (k .0)) in
-      let c : Consistent after = withCores-consistent s old (claimedCores s (k .0)) (claimed-recored s old (k .0) (h .0) (h .1)) in
-      let d : Delivering after = claimed-delivering s old (k .0) (h .0) (h .1) (wellFormed-delivering s (wellFormed-out s sound)) in
+      let c : Consistent after = effect-consistent s (Claim k) w passes in
+      let d : Delivering after = claimed-delivering s (wellFormed-consistent s w) (k .0) (h .0) (h .1) (wellFormed-delivering s w) in
       is ∙ rw new (sym (unmoved after (still after c d claimed-settled) ((coreAt s (k .0)) .message .source .0)) ∙
       answers s (Claim k) sound passes)
 
@@ -61,12 +61,13 @@ retracted-settled s t first then =
 
 module _ (s : Controller) (k : CoreId) (p : ℕ) (sound : wellFormed s ≡ true) (passes : refusalOf s (SetCorePriority k p) ≡ 0) {l : List Core} (is-set : l ≡ setCores s (k .0) p) where
   pub set-begins : Consistent (withCores s l) × AllDirty (withCores s l)
+  unfolding effect
   set-begins =
-      let old : Consistent s = wellFormed-consistent s (wellFormed-out s sound) in
+      let w : WellFormed s = wellFormed-out s sound in
       let h : Checked s (SetCorePriority k p) = checked s (SetCorePriority k p) passes in
       rw is-set (
-        withCores-consistent s old (setCores s (k .0) p) (set-recored s old (k .0) (h .0) p (h .1)),
-        set-allDirty s old (k .0) (h .0) p (h .1),
+        effect-consistent s (SetCorePriority k p) w passes,
+        set-allDirty s (wellFormed-consistent s w) (k .0) (h .0) p (h .1),
       )
 
   pub set-settles : {t : Retracted} → AfterRetractions (withCores s l) t → {r : Answer} → AfterDeliveries (t .state) 0 (t .cycles) r → r ≡ execute s (SetCorePriority k p)

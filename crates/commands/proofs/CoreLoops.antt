@@ -1,9 +1,11 @@
 -- The two loops over the cores, and the flags of a claimed request. Assumes nothing.
---   unboxed-more     the loop that looks for a source's box, one core further
+--   unmapped                       the length of an array's list, from what owning the array tells
 --   holds-unfilled, holds-other    an empty box, and one of another source, does not hold the request
---   front f k l      the list whose first k elements are changed by f; front-more, front-all: one turn, and the end
---   unmapped         the length of an array's list, from what owning the array tells
-use Prim.Native.Nat.{ℕ, zero, suc, _+_, _<_, _≤_}
+--   unboxed-none, -more, -all      no box of the first k cores holds it: at 0, one core further, and at the end
+--   not-pending, not-delivered, in-no-box    the test of a claimed request, where it stops
+--   front f k l                    the list whose first k elements are changed by f
+--   front-none, -more, -all        at 0, one element further, and at the end
+use Prim.Native.Nat.{ℕ, zero, suc, _+_, _≤_}
 use mathlib.Core.Path.{_≡_, refl, ap, _∙_}
 use mathlib.Core.List.{List, [], _∷_, map}
 use mathlib.Core.Bool.{Bool, true, false, not, _&&_}

@@ -1,7 +1,8 @@
 -- What the checks of a command come to, from the tests that the code makes, in their order. Assumes nothing.
+-- A name in the third person is of a command that passes: its checks come to 0. The others give a number.
 -- The code reads the source with an id at index id - 1, the definitions at `indexOf id`.
 use Prim.Native.Nat.{ℕ, zero, suc, _-_, _<_, _≤_}
-use mathlib.Core.Path.{_≡_, refl, _∙_}
+use mathlib.Core.Path.{_≡_, _∙_}
 use mathlib.Core.Bool.{Bool, true, false, not, _&&_, and-false}
 use native.Mathlib.Omega.{arith}
 use native.Mathlib.Nat.{not-suc-le-zero}
@@ -14,7 +15,6 @@ use Rattle.model.specs.declared.Command.the-variants.{SetSourcePriority, Mask, 
 use Rattle.model.specs.Records.{indexOf, sourceAt, coreAt}
 use Rattle.model.specs.Priorities.{topPriority}
 use Rattle.model.specs.Requests.{boxed, claimed}
-use Rattle.model.specs.WellFormed.{between}
 use Rattle.model.specs.Commands.{refusalOf}
 use Rattle.model.proofs.Bools.{not-out, not-not}
 use Rattle.soundness.proofs.Exact.{between-exact}
@@ -37,7 +37,7 @@ module _ (s : Controller) (id : SourceId) (h : Addressed s id) where
 
   pub unmasks : refusalOf s (Unmask id) ≡ 0
   unfolding refusalOf
-  unmasks = rw (h .named)
+  unmasks = masks
 
   module _ (p : ℕ) where
     pub priority-zero : p ≡ 0 → refusalOf s (SetSourcePriority id p) ≡ 5
@@ -76,11 +76,11 @@ module _ (s : Controller) (id : SourceId) (h : Addressed s id) where
 
     pub complete-unclaimed : not taken ≡ true → refusalOf s (Complete id) ≡ 8
     unfolding refusalOf
-    complete-unclaimed e = rw (h .named, ← is-claimed, not-out taken e)
+    complete-unclaimed e = redeliver-unclaimed e
 
     pub completes : not taken ≡ false → refusalOf s (Complete id) ≡ 0
     unfolding refusalOf
-    completes e = rw (h .named, ← is-claimed, not-not taken e)
+    completes e = redelivers e
 
 -- ---- commands on a core
 

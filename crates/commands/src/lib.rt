@@ -18,6 +18,7 @@ use model::Source;
 use model::SourceId;
 
 // A refused command hands back the state it was given.
+// Rules out: a fresh state instead (`refused_hands_back_fresh`); an id (`refused_answers_id`).
 fn refused(s: Controller, number: u8) -> Answer
     ensures { λ r. ⌜ r ≡ refusedOf s number ⌝ }
 {
@@ -30,6 +31,7 @@ fn refused(s: Controller, number: u8) -> Answer
 }
 
 // An accepted command whose effect leaves the state at rest.
+// Rules out: a number for no (`accepted_answers_one`).
 fn resting(s: Controller, id: SourceId) -> Answer
     ensures { λ r. ⌜ r ≡ answer s 0 (id .0) 0 ⌝ }
 {
@@ -42,6 +44,7 @@ fn resting(s: Controller, id: SourceId) -> Answer
 }
 
 // A fresh controller, or 2 with the fresh one of sizes (1, 1).
+// Rules out: 129 sources accepted (`make_accepts_129`); sizes (2, 1) handed back (`make_gives_two_one`).
 pub fn make(n: u16, m: u16) -> Answer
     ensures { λ r. ⌜ r ≡ makeOf n m ⌝ }
 {
@@ -52,6 +55,7 @@ pub fn make(n: u16, m: u16) -> Answer
 }
 
 // Whether the id is 1 to n.
+// Rules out: an id past n (`id_past_n_accepted`); id 0 (`id_zero_accepted`); no id at all (`refuse_everything`).
 fn names_source(n: u16, id: SourceId) -> bool
     ensures { λ r. ⌜ r ≡ between 1 n (id .0) ⌝ }
 {
@@ -79,6 +83,7 @@ fn boxed(cores: [Core; CORES], m: usize, id: SourceId) -> bool
 }
 
 // Whether the request of a source record is claimed: pending, delivered, and in no box.
+// Rules out: a request in a box (`boxed_completed`); one that waits (`waiting_completed`).
 fn is_claimed(s: Source, cores: [Core; CORES], m: usize, id: SourceId) -> bool
     requires { ⌜ m ≤ maxCores ⌝ }
     ensures { λ r. ⌜ r ≡ s .pending && s .delivered && not (boxedIn cores m (id .0)) ⌝ }
@@ -93,6 +98,7 @@ fn is_claimed(s: Source, cores: [Core; CORES], m: usize, id: SourceId) -> bool
 }
 
 // Every filled box becomes dirty.
+// Rules out: one core's alone (`only_written_core_dirty`).
 fn all_soiled(cores: [Core; CORES]) -> [Core; CORES]
     ensures { λ r. ⌜ r ≡ map soiled cores ⌝ }
 {
@@ -105,6 +111,8 @@ fn all_soiled(cores: [Core; CORES]) -> [Core; CORES]
     next
 }
 
+// Rules out: 5 for a bad id with a bad priority (`priority_before_source`); a pending request that changes its priority
+// (`request_follows_setting`).
 pub fn set_source_priority(s: Controller, id: SourceId, p: u16) -> Answer
     ensures { λ r. ⌜ r ≡ executeOf s (Command.SetSourcePriority id p) ⌝ }
 {
@@ -128,6 +136,7 @@ pub fn set_source_priority(s: Controller, id: SourceId, p: u16) -> Answer
     resting(next, SourceId(0))
 }
 
+// Rules out: the mask turned off (`unmask_for_mask`); a request that ends (`mask_ends_request`).
 pub fn mask(s: Controller, id: SourceId) -> Answer
     ensures { λ r. ⌜ r ≡ executeOf s (Command.Mask id) ⌝ }
 {
@@ -145,6 +154,7 @@ pub fn mask(s: Controller, id: SourceId) -> Answer
     resting(next, SourceId(0))
 }
 
+// Rules out: the mask turned on (`mask_for_unmask`); a boxed request that waits again (`unmask_withdraws`).
 pub fn unmask(s: Controller, id: SourceId) -> Answer
     ensures { λ r. ⌜ r ≡ executeOf s (Command.Unmask id) ⌝ }
 {
@@ -162,6 +172,7 @@ pub fn unmask(s: Controller, id: SourceId) -> Answer
     settling::deliver_all(next, SourceId(0), 0)
 }
 
+// Rules out: boxes left clean (`no_box_dirty`); retractions that are not counted (`retractions_not_counted`).
 pub fn set_core_priority(s: Controller, core: CoreId, p: u16) -> Answer
     ensures { λ r. ⌜ r ≡ executeOf s (Command.SetCorePriority core p) ⌝ }
 {
@@ -187,6 +198,7 @@ pub fn set_core_priority(s: Controller, core: CoreId, p: u16) -> Answer
     settling::deliver_all(state, SourceId(0), r.cycles)
 }
 
+// Rules out: a second request of a source (`retrigger_accepted`); a request at an older priority (`trigger_keeps_old_priority`).
 pub fn trigger(s: Controller, id: SourceId) -> Answer
     ensures { λ r. ⌜ r ≡ executeOf s (Command.Trigger id) ⌝ }
 {
@@ -209,6 +221,7 @@ pub fn trigger(s: Controller, id: SourceId) -> Answer
     settling::deliver_all(next, SourceId(0), 0)
 }
 
+// Rules out: an answer of the core's number (`claim_answers_core`); core m accepted (`core_m_accepted`).
 pub fn claim(s: Controller, core: CoreId) -> Answer
     ensures { λ r. ⌜ r ≡ executeOf s (Command.Claim core) ⌝ }
 {
@@ -228,6 +241,7 @@ pub fn claim(s: Controller, core: CoreId) -> Answer
     resting(next, c.message.source)
 }
 
+// Rules out: a request that ends (`redeliver_ends_request`); one that stays claimed (`redeliver_changes_nothing`).
 pub fn redeliver(s: Controller, id: SourceId) -> Answer
     ensures { λ r. ⌜ r ≡ executeOf s (Command.Redeliver id) ⌝ }
 {
@@ -249,6 +263,7 @@ pub fn redeliver(s: Controller, id: SourceId) -> Answer
     settling::deliver_all(next, SourceId(0), 0)
 }
 
+// Rules out: a core's priority lowered (`complete_lowers_core`); a request's priority left behind (`complete_keeps_priority`).
 pub fn complete(s: Controller, id: SourceId) -> Answer
     ensures { λ r. ⌜ r ≡ executeOf s (Command.Complete id) ⌝ }
 {
@@ -273,6 +288,7 @@ pub fn complete(s: Controller, id: SourceId) -> Answer
 }
 
 // One call for all eight.
+// Rules out: another core than the one given (`execute_core_zero`); another priority (`execute_fixed_priority`).
 pub fn execute(s: Controller, c: Command) -> Answer
     ensures { λ r. ⌜ r ≡ executeOf s c ⌝ }
 {

@@ -9,8 +9,9 @@ use mathlib.Core.Bool.{true, false, and-false}
 use lib.ListN.{length, set}
 use lib.Seq.{sets}
 use native.Mathlib.Omega.{arith}
+use lib.Dec.{eqb}
 use borrow.Author.Tests.{eq-eqb, ne-eqb, le-leb, lt-leb, eqb-true}
-use Rattle.model.proofs.Bools.{and-l, and-in}
+use Rattle.model.proofs.Bools.{and-l, and-in, Flag, on, off, flag}
 use Rattle.model.specs.Bytes.{stateSize, isState, commandSize, answerSize, fitsRun}
 
 pub state-size : (b : List ℕ) → isState b ≡ true → length b ≡ stateSize
@@ -31,10 +32,15 @@ module _ (b list answers : List ℕ) where
   pub not-whole : (length list % commandSize ≡ 0 → ⊥) → fitsRun b list answers ≡ false
   not-whole h = simp (ne-eqb _ _ h, and-false)
 
-  pub no-room : length list % commandSize ≡ 0 → length answers < length list → fitsRun b list answers ≡ false
-  no-room e h =
-      let less : length answers < length list / commandSize * answerSize = omega arith in
-      simp (lt-leb _ _ less, and-false)
+  pub no-room : length answers < length list → fitsRun b list answers ≡ false
+  no-room h = go (flag (eqb (length list % commandSize) 0))
+    where
+      go : Flag (eqb (length list % commandSize) 0) → fitsRun b list answers ≡ false
+      go (on e) =
+          let whole : length list % commandSize ≡ 0 = eqb-true _ _ e in
+          let less : length answers < length list / commandSize * answerSize = omega arith in
+          simp (lt-leb _ _ less, and-false)
+      go (off e) = simp (e, and-false)
 
   pub fits : isState b ≡ true → length list % commandSize ≡ 0 → length list ≤ length answers → fitsRun b list answers ≡ true
   fits p e h =

@@ -19,8 +19,8 @@ fn packed(number: u8, id: SourceId, cycles: u16) -> u64
 }
 
 // A fresh controller of n sources and m cores, written as bytes.
-// Rules out: a refusal answered as a success (`make_number_dropped`); a controller of other sizes (`sizes_swapped`); bytes behind the
-// state left as they were (`longer_buffer_accepted`).
+// Rules out: a refusal answered as a success (`make_number_dropped`); a controller of other sizes (`sizes_swapped`); a buffer
+// longer than a state (`longer_buffer_accepted`).
 #[no_mangle]
 pub extern "C" fn psic_make(n: u16, m: u16, state: &mut [u8]) -> u64
     ensures { λ r. ⌜ (r ≡ (makeCall n m (now (state .entry))) .result) × (now (state .exit) ≡ (makeCall n m (now (state .entry))) .bytes) ⌝ }

@@ -1,9 +1,10 @@
 -- `commands::claim` meets its contract: the core keeps its current priority, so that the effect leaves the state at rest. Assumes nothing.
-use borrow.Author.Needs.{needs}
 use Prim.Native.Nat.{_<_}
 use mathlib.Core.Path.{_≡_}
 use mathlib.Core.Bool.{true}
+use borrow.Author.Needs.{needs}
 use Rattle.model.specs.declared.Command.the-variants.{Claim}
+use Rattle.model.specs.Records.{maxCores}
 use Rattle.model.specs.WellFormed.{wellFormed}
 use Rattle.commands.proofs.Answering.{failing, passing, at-state, at-check, core-in-array}
 use Rattle.commands.proofs.Refusing.{claim-no-core, claim-empty, claims}
@@ -13,6 +14,9 @@ use Rattle.commands.proofs.claim.Tie as tie
 
 sound : (c : tie.Else1) → wellFormed (c .before .before .args .t1) ≡ true
 sound c = passing (c .before .well-formed .ensures) (c .if1 .left)
+
+in-array : (c : tie.Else2) → c .before .before .before .before .args .core .0 < maxCores
+in-array c = core-in-array (c .before .before .before .before .args .t1) (c .before .before .before .before .args .core) (sound (c .before .before)) (c .if2 .left)
 
 well-formed-requires : tie.Need-well-formed-requires
 well-formed-requires c κs = search needs
@@ -40,7 +44,7 @@ mul-c : tie.Need-mul-c
 mul-c c = search needs
 
 element-copy-out-c : tie.Need-element-copy-out-c
-element-copy-out-c c = core-in-array (c .before .before .before .before .before .args .t1) (c .before .before .before .before .before .args .core) (sound (c .before .before .before)) (c .before .if2 .left)
+element-copy-out-c c = in-array (c .before)
 
 refused-requires-3 : tie.Need-refused-requires-3
 refused-requires-3 c κs = search needs
@@ -57,7 +61,7 @@ mul-t13 : tie.Need-mul-t13
 mul-t13 c = search needs
 
 element-set-from-next : tie.Need-element-set-from-next
-element-set-from-next c = core-in-array (c .before .before .before .before .before .before .before .before .before .args .t1) (c .before .before .before .before .before .before .before .before .before .args .core) (sound (c .before .before .before .before .before .before .before)) (c .before .before .before .before .before .if2 .left)
+element-set-from-next c = in-array (c .before .before .before .before .before)
 
 resting-requires : tie.Need-resting-requires
 resting-requires c κs = search needs
@@ -65,7 +69,8 @@ resting-requires c κs = search needs
 returns-4 : tie.Need-returns-4
 returns-4 c =
     let a = c .before .before .before .before .before .before .before .before .before .before .args in
-    claim-rests (a .t1) (a .core) (sound (c .before .before .before .before .before .before .before .before)) (claims (a .t1) (a .core) (c .before .before .before .before .before .before .if2 .left) (c .before .before .if3 .left)) (c .before .claimed-core .ensures) (c .resting .ensures)
+    claim-rests (a .t1) (a .core) (sound (c .before .before .before .before .before .before .before .before)) (claims (a .t1) (a .core) (c .before .before .before .before .before .before .if2 .left) (c .before .before .if3 .left)) (c .before .claimed-core .ensures)
+    (c .resting .ensures)
 
 pub claim-spec : {M : Type 1} → statement M
 claim-spec =

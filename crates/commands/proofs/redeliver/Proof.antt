@@ -74,14 +74,6 @@ mul-r-2 c = search needs
 element-set-from-r : tie.Need-element-set-from-r
 element-set-from-r c = (here (c .before .before .before .before .before)) .in-array
 
-deliver-all-requires : tie.Need-deliver-all-requires
-unfolding effect answeredId
-deliver-all-requires c κs =
-    let a = c .before .before .before .before .before .before .before .before .before .args in
-    let h : Addressed (a .t1) (a .id) = here (c .before .before .before .before .before) in
-    source-begins (a .t1) (Redeliver (a .id)) (a .id) (withDelivered false) refl refl (h .sound)
-    (redelivers (a .t1) (a .id) h (c .before .is-claimed .ensures) (c .if3 .left))
-
 returns-4 : tie.Need-returns-4
 unfolding effect answeredId
 returns-4 c =
@@ -89,6 +81,14 @@ returns-4 c =
     let h : Addressed (a .t1) (a .id) = here (c .before .before .before .before .before .before) in
     source-delivers (a .t1) (Redeliver (a .id)) (a .id) (withDelivered false) refl refl (h .sound)
     (redelivers (a .t1) (a .id) h (c .before .before .is-claimed .ensures) (c .before .if3 .left)) (c .deliver-all .ensures)
+
+deliver-all-requires : tie.Need-deliver-all-requires
+unfolding effect answeredId
+deliver-all-requires c κs =
+    let a = c .before .before .before .before .before .before .before .before .before .args in
+    let h : Addressed (a .t1) (a .id) = here (c .before .before .before .before .before) in
+    source-begins (a .t1) (Redeliver (a .id)) (a .id) (withDelivered false) refl refl (h .sound)
+    (redelivers (a .t1) (a .id) h (c .before .is-claimed .ensures) (c .if3 .left))
 
 pub redeliver-spec : {M : Type 1} → statement M
 redeliver-spec =

@@ -67,13 +67,6 @@ mul-r-2 c = search needs
 element-set-from-r : tie.Need-element-set-from-r
 element-set-from-r c = (here (c .before .before .before)) .in-array
 
-deliver-all-requires : tie.Need-deliver-all-requires
-unfolding effect answeredId
-deliver-all-requires c κs =
-    let a = c .before .before .before .before .before .before .before .args in
-    let h : Addressed (a .t1) (a .id) = here (c .before .before .before) in
-    source-begins (a .t1) (Trigger (a .id)) (a .id) opened refl refl (h .sound) (triggers (a .t1) (a .id) h (c .if3 .left))
-
 returns-4 : tie.Need-returns-4
 unfolding effect answeredId
 returns-4 c =
@@ -81,6 +74,13 @@ returns-4 c =
     let h : Addressed (a .t1) (a .id) = here (c .before .before .before .before) in
     source-delivers (a .t1) (Trigger (a .id)) (a .id) opened refl refl (h .sound) (triggers (a .t1) (a .id) h (c .before .if3 .left))
     (c .deliver-all .ensures)
+
+deliver-all-requires : tie.Need-deliver-all-requires
+unfolding effect answeredId
+deliver-all-requires c κs =
+    let a = c .before .before .before .before .before .before .before .args in
+    let h : Addressed (a .t1) (a .id) = here (c .before .before .before) in
+    source-begins (a .t1) (Trigger (a .id)) (a .id) opened refl refl (h .sound) (triggers (a .t1) (a .id) h (c .if3 .left))
 
 pub trigger-spec : {M : Type 1} → statement M
 trigger-spec =

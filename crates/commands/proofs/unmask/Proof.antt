@@ -59,19 +59,19 @@ mul-r-2 c = search needs
 element-set-from-r : tie.Need-element-set-from-r
 element-set-from-r c = (here (c .before .before)) .in-array
 
-deliver-all-requires : tie.Need-deliver-all-requires
-unfolding effect answeredId
-deliver-all-requires c κs =
-    let a = c .before .before .before .before .before .before .args in
-    let h : Addressed (a .s) (a .id) = here (c .before .before) in
-    source-begins (a .s) (Unmask (a .id)) (a .id) (withMask false) refl refl (h .sound) (unmasks (a .s) (a .id) h)
-
 returns-3 : tie.Need-returns-3
 unfolding effect answeredId
 returns-3 c =
     let a = c .before .before .before .before .before .before .before .args in
     let h : Addressed (a .s) (a .id) = here (c .before .before .before) in
     source-delivers (a .s) (Unmask (a .id)) (a .id) (withMask false) refl refl (h .sound) (unmasks (a .s) (a .id) h) (c .deliver-all .ensures)
+
+deliver-all-requires : tie.Need-deliver-all-requires
+unfolding effect answeredId
+deliver-all-requires c κs =
+    let a = c .before .before .before .before .before .before .args in
+    let h : Addressed (a .s) (a .id) = here (c .before .before) in
+    source-begins (a .s) (Unmask (a .id)) (a .id) (withMask false) refl refl (h .sound) (unmasks (a .s) (a .id) h)
 
 pub unmask-spec : {M : Type 1} → statement M
 unmask-spec =

@@ -1,5 +1,5 @@
--- `exports::psic_execute` meets its contract: a number above 7 and bytes that encode no state are refused, and past both tests the command
--- runs on the state that the bytes encode. Assumes nothing.
+-- `exports::psic_execute` meets its contract: a number above 7 and bytes that encode no state are refused, and past both tests the
+-- command runs on the state that the bytes encode. Assumes nothing.
 use borrow.Author.Needs.{needs}
 use borrow.Author.Tests.{not-true, not-false}
 use mathlib.Core.Path.{_≡_, sym, _∙_}

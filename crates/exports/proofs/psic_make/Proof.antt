@@ -1,5 +1,5 @@
--- `exports::psic_make` meets its contract: a buffer of another length is left as it was, and one of a state's length gets the bytes of the
--- controller made. Assumes nothing.
+-- `exports::psic_make` meets its contract: a buffer of another length is left as it was, and one of a state's length gets the bytes of
+-- the controller made. Assumes nothing.
 use borrow.Author.Needs.{needs}
 use native.Mathlib.Omega.{arith}
 use Rattle.exports.proofs.Calls.{make-refused, make-answered}

@@ -1,5 +1,5 @@
--- `exports::psic_run` meets its contract. The loop's invariant is `Taken`: the commands before i are taken, and what is left of the list ends
--- as the whole does from the start. The measure is what is left of the length. Assumes nothing.
+-- `exports::psic_run` meets its contract. The loop's invariant is `Taken`: the commands before i are taken, and what is left of the list
+-- ends as the whole does from the start. The measure is what is left of the length. Assumes nothing.
 use Prim.Native.Nat.{_-_}
 use lib.ListN.{length}
 use borrow.Author.Needs.{needs}
@@ -52,7 +52,7 @@ returns-2 : tie.Need-returns-2 Inv-loop μ-loop
 returns-2 c =
     let a = c .before .before .before .before .before .args in
     run-refused (a .state .now) (a .list .now) (a .answers .now)
-    (no-room (a .state .now) (a .list .now) (a .answers .now) (c .before .if1 .left) (omega arith))
+    (no-room (a .state .now) (a .list .now) (a .answers .now) (omega arith))
 
 is-state-requires : tie.Need-is-state-requires Inv-loop μ-loop
 is-state-requires c κs = search needs

@@ -1,0 +1,66 @@
+//! A long comparison of the proved library with the reference model.
+//!
+//! usage: soak [ROUNDS [LENGTH [SEED]]]     (default: 12000 rounds of 1000 commands, and a seed from the clock)
+//!
+//! Each round runs, from one printed seed, makings of any sizes, a history, one command of each kind on broken states made from its end, and
+//! lent records. The first difference ends the run with status 1.
+
+use std::time::{SystemTime, UNIX_EPOCH};
+
+use psic_reference::compare::Comparison;
+use psic_reference::damage;
+use psic_reference::generate::{self, Mix};
+use psic_reference::model::Reference;
+use psic_reference::random::Random;
+use psic_trials::library::Library;
+
+fn main() {
+    let mut words = std::env::args().skip(1).map(|word| {
+        word.parse::<u64>()
+            .unwrap_or_else(|_| panic!("{word} is no number"))
+    });
+    let rounds = words.next().unwrap_or(12_000);
+    let length = words.next().unwrap_or(1_000) as usize;
+    let seed = words.next().unwrap_or_else(clock);
+    println!("seed {seed}, {rounds} rounds of {length} commands");
+    let mut seeds = Random::new(seed);
+    let mut broken = 0;
+    for round in 0..rounds {
+        let seed = seeds.bits();
+        let comparison = Comparison {
+            left: &Reference,
+            right: &Library,
+            seed,
+        };
+        if let Some(difference) = comparison.round(length) {
+            println!("round {round}: {difference}");
+            std::process::exit(1);
+        }
+        broken += broken_states(seed, length);
+        if (round + 1) % 1000 == 0 {
+            println!(
+                "{} commands and {broken} broken states, no difference",
+                (round + 1) * length as u64
+            );
+        }
+    }
+    println!(
+        "{} commands and {broken} broken states, 0 differences",
+        rounds * length as u64
+    );
+}
+
+fn clock() -> u64 {
+    SystemTime::now()
+        .duration_since(UNIX_EPOCH)
+        .map_or(1, |time| time.as_nanos() as u64)
+}
+
+/// How many broken states the round of this seed has.
+fn broken_states(seed: u64, length: usize) -> usize {
+    let mut random = Random::new(seed);
+    let (n, m) = generate::sizes(&mut random);
+    let mix = random.pick(&[Mix::Even, Mix::Busy]);
+    let history = generate::history(random.bits(), n, m, length, mix);
+    damage::broken_states(&mut random, &generate::final_state(&history)).len()
+}

@@ -1,0 +1,339 @@
+//! The model that the library's speed is compared with: plain Rust on a `&mut` state, the same algorithm as the library
+//! (one pass for the sound-state test, keys made once a command, the comparator tree by halves, no settling where a command
+//! leaves the state at rest), and no needless work.
+
+#[derive(Clone, Copy)]
+struct Source {
+    configured: u16,
+    masked: bool,
+    pending: bool,
+    delivered: bool,
+    priority: u16,
+}
+#[derive(Clone, Copy)]
+struct MessageBox {
+    filled: bool,
+    dirty: bool,
+    source: u16,
+    priority: u16,
+}
+const EMPTY: MessageBox = MessageBox {
+    filled: false,
+    dirty: false,
+    source: 0,
+    priority: 0,
+};
+#[derive(Clone, Copy)]
+struct Core {
+    configured: u16,
+    message: MessageBox,
+}
+#[derive(Clone)]
+pub struct Controller {
+    n: u16,
+    m: u16,
+    sources: [Source; 128],
+    cores: [Core; 32],
+}
+#[derive(Clone, Copy)]
+pub enum Command {
+    SetSourcePriority(u16, u16),
+    Mask(u16),
+    Unmask(u16),
+    SetCorePriority(u16, u16),
+    Trigger(u16),
+    Claim(u16),
+    Redeliver(u16),
+    Complete(u16),
+}
+pub struct Outcome {
+    pub number: u8,
+    pub id: u16,
+    pub cycles: u16,
+}
+
+fn top_priority(n: u16) -> u16 {
+    (1u32 << (n.ilog2() + 2)) as u16 - 1
+}
+impl Core {
+    fn current(&self) -> u16 {
+        if self.message.filled {
+            self.message.priority
+        } else {
+            self.configured
+        }
+    }
+}
+impl MessageBox {
+    fn is_empty(&self) -> bool {
+        !self.filled && !self.dirty && self.source == 0 && self.priority == 0
+    }
+}
+impl Source {
+    fn candidate(&self) -> bool {
+        self.pending && !self.delivered && !self.masked
+    }
+    fn rank(&self) -> u32 {
+        if self.candidate() {
+            self.priority as u32 + 1
+        } else {
+            0
+        }
+    }
+    fn in_range(&self, top: u16) -> bool {
+        (1..=top).contains(&self.configured)
+            && if self.pending {
+                (1..=top).contains(&self.priority)
+            } else {
+                !self.delivered && self.priority == 0
+            }
+    }
+    fn is_reset(&self) -> bool {
+        self.configured == 1
+            && self.masked
+            && !self.pending
+            && !self.delivered
+            && self.priority == 0
+    }
+}
+fn highest(keys: &[u32]) -> usize {
+    match keys {
+        [] | [_] => 0,
+        [left, right] => usize::from(left < right),
+        _ => {
+            let half = keys.len() - keys.len() / 2;
+            let (front, back) = keys.split_at(half);
+            let left = highest(front);
+            let right = half + highest(back);
+            if keys[left] < keys[right] {
+                right
+            } else {
+                left
+            }
+        }
+    }
+}
+fn least(currents: &[u16]) -> usize {
+    let mut best = 0;
+    for k in 1..currents.len() {
+        if currents[k] < currents[best] {
+            best = k;
+        }
+    }
+    best
+}
+impl Controller {
+    pub fn new(n: u16, m: u16) -> Self {
+        Controller {
+            n,
+            m,
+            sources: [Source {
+                configured: 1,
+                masked: true,
+                pending: false,
+                delivered: false,
+                priority: 0,
+            }; 128],
+            cores: [Core {
+                configured: 0,
+                message: EMPTY,
+            }; 32],
+        }
+    }
+    fn well_formed(&self) -> bool {
+        let (n, m) = (self.n as usize, self.m as usize);
+        if !(1..=128).contains(&n) || !(1..=32).contains(&m) {
+            return false;
+        }
+        let top = top_priority(self.n);
+        let mut seen = [false; 128];
+        let mut lowest = u16::MAX;
+        let mut covered = 0;
+        for c in &self.cores[..m] {
+            if c.configured > top {
+                return false;
+            }
+            if c.message.filled {
+                let id = c.message.source as usize;
+                if id == 0 || id > n || seen[id - 1] {
+                    return false;
+                }
+                seen[id - 1] = true;
+                let r = &self.sources[id - 1];
+                if c.message.dirty
+                    || !r.pending
+                    || !r.delivered
+                    || r.priority != c.message.priority
+                    || c.configured >= c.message.priority
+                {
+                    return false;
+                }
+                covered = covered.max(c.configured);
+            } else if !c.message.is_empty() {
+                return false;
+            }
+            lowest = lowest.min(c.current());
+        }
+        covered <= lowest
+            && self.cores[m..]
+                .iter()
+                .all(|c| c.configured == 0 && c.message.is_empty())
+            && self.sources[..n]
+                .iter()
+                .all(|r| r.in_range(top) && !(r.candidate() && r.priority > lowest))
+            && self.sources[n..].iter().all(|r| r.is_reset())
+    }
+    fn boxed(&self, id: u16) -> bool {
+        self.cores[..self.m as usize]
+            .iter()
+            .any(|c| c.message.filled && c.message.source == id)
+    }
+    fn claimed(&self, id: u16) -> bool {
+        let r = &self.sources[id as usize - 1];
+        r.pending && r.delivered && !self.boxed(id)
+    }
+    fn settle(&mut self) -> u16 {
+        let (n, m) = (self.n as usize, self.m as usize);
+        let mut cycles = 0;
+        let mut currents = [0u16; 32];
+        for k in 0..m {
+            let c = &mut self.cores[k];
+            if c.message.dirty {
+                self.sources[c.message.source as usize - 1].delivered = false;
+                c.message = EMPTY;
+                cycles += 1;
+            }
+            currents[k] = c.current();
+        }
+        let mut keys = [0u32; 128];
+        for (key, r) in keys.iter_mut().zip(&self.sources[..n]) {
+            *key = r.rank();
+        }
+        loop {
+            let at = highest(&keys[..n]);
+            let k = least(&currents[..m]);
+            if keys[at] <= currents[k] as u32 + 1 {
+                return cycles;
+            }
+            let c = &mut self.cores[k];
+            if c.message.filled {
+                let old = c.message.source as usize - 1;
+                self.sources[old].delivered = false;
+                keys[old] = self.sources[old].rank();
+            }
+            let r = &mut self.sources[at];
+            r.delivered = true;
+            keys[at] = 0;
+            c.message = MessageBox {
+                filled: true,
+                dirty: false,
+                source: at as u16 + 1,
+                priority: r.priority,
+            };
+            currents[k] = r.priority;
+            cycles += 1;
+        }
+    }
+    fn source(&mut self, id: u16) -> Result<&mut Source, u8> {
+        if id == 0 || id > self.n {
+            Err(4)
+        } else {
+            Ok(&mut self.sources[id as usize - 1])
+        }
+    }
+    fn core(&mut self, k: u16) -> Result<&mut Core, u8> {
+        if k >= self.m {
+            Err(3)
+        } else {
+            Ok(&mut self.cores[k as usize])
+        }
+    }
+    fn apply(&mut self, c: Command) -> Result<(u16, bool), u8> {
+        if !self.well_formed() {
+            return Err(1);
+        }
+        let top = top_priority(self.n);
+        match c {
+            Command::SetSourcePriority(id, p) => {
+                let r = self.source(id)?;
+                if p == 0 || p > top {
+                    return Err(5);
+                }
+                r.configured = p;
+                return Ok((0, true));
+            }
+            Command::Mask(id) => {
+                self.source(id)?.masked = true;
+                return Ok((0, true));
+            }
+            Command::Unmask(id) => self.source(id)?.masked = false,
+            Command::SetCorePriority(k, p) => {
+                let c = self.core(k)?;
+                if p > top {
+                    return Err(5);
+                }
+                c.configured = p;
+                for c in &mut self.cores {
+                    c.message.dirty = c.message.filled;
+                }
+            }
+            Command::Trigger(id) => {
+                let r = self.source(id)?;
+                if r.pending {
+                    return Err(6);
+                }
+                r.pending = true;
+                r.delivered = false;
+                r.priority = r.configured;
+            }
+            Command::Claim(k) => {
+                let c = self.core(k)?;
+                if !c.message.filled {
+                    return Err(7);
+                }
+                let id = c.message.source;
+                *c = Core {
+                    configured: c.message.priority,
+                    message: EMPTY,
+                };
+                return Ok((id, true));
+            }
+            Command::Redeliver(id) => {
+                self.source(id)?;
+                if !self.claimed(id) {
+                    return Err(8);
+                }
+                self.sources[id as usize - 1].delivered = false;
+            }
+            Command::Complete(id) => {
+                self.source(id)?;
+                if !self.claimed(id) {
+                    return Err(8);
+                }
+                let r = &mut self.sources[id as usize - 1];
+                r.pending = false;
+                r.delivered = false;
+                r.priority = 0;
+                return Ok((0, true));
+            }
+        }
+        Ok((0, false))
+    }
+    pub fn execute(&mut self, c: Command) -> Outcome {
+        match self.apply(c) {
+            Err(number) => Outcome {
+                number,
+                id: 0,
+                cycles: 0,
+            },
+            Ok((id, rests)) => {
+                let cycles = if rests { 0 } else { self.settle() };
+                Outcome {
+                    number: 0,
+                    id,
+                    cycles,
+                }
+            }
+        }
+    }
+}

@@ -1,0 +1,9 @@
+//! The proved library beside two models of its own rules.
+//!
+//! - [`library`] puts the library behind the reference's trait, so that one comparison runs both.
+//! - [`fast`] is the model that the library's speed is compared with.
+//! - [`workload`] makes the benchmark's commands.
+
+pub mod fast;
+pub mod library;
+pub mod workload;
