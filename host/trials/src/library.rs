@@ -60,7 +60,7 @@ impl Model for Library {
     }
 }
 
-/// The proved library, a whole list in one call: each command of a history is run as the last of a list of one.
+/// The proved library, a whole list in one call.
 pub fn run_list(state: &mut [u8], commands: &[Command]) -> Vec<Answer> {
     let list: Vec<u8> = commands
         .iter()
