@@ -28,9 +28,9 @@ use Rattle.soundness.proofs.Test.{wellFormed-in}
 use Rattle.settling.specs.Phases.{Consistent}
 use Rattle.settling.proofs.Next.{Next, resting, retracting, arbitrating, next-cases}
 use Rattle.settling.proofs.Run.{settle-rest}
-use Rattle.commands.proofs.Accepted.{execute-accepted, execute-refused}
-use Rattle.commands.proofs.CoreEffects.{claimedCores, claimed-delivering, current-same}
-use Rattle.commands.proofs.Effects.{wellFormed-consistent, wellFormed-delivering}
+use Rattle.guarantees.proofs.Accepted.{execute-accepted, execute-refused}
+use Rattle.guarantees.proofs.CoreEffects.{claimedCores, claimed-delivering, current-same}
+use Rattle.guarantees.proofs.Effects.{wellFormed-consistent, wellFormed-delivering}
 use Rattle.borrowed.proofs.Claims.{clean-only, taken-empty, taken-good}
 
 -- ---- no more sources, no higher top

@@ -25,7 +25,7 @@ use Rattle.model.specs.Commands.{unless, namesSource, effect, refusalOf, refusa
 use Rattle.model.proofs.Bools.{not-out, not-not}
 use Rattle.soundness.proofs.Exact.{between-exact}
 use Rattle.soundness.proofs.Test.{wellFormed-out}
-use Rattle.commands.proofs.Accepted.{execute-accepted, execute-refused}
+use Rattle.guarantees.proofs.Accepted.{execute-accepted, execute-refused}
 
 -- ---- a test and its answer
 

@@ -21,11 +21,11 @@ use Rattle.settling.specs.declared.Retracted.{Retracted}
 use Rattle.settling.specs.Phases.{Consistent, AllDirty, Delivering}
 use Rattle.settling.specs.Runs.{AfterRetractions, AfterDeliveries}
 use Rattle.settling.proofs.Next.{Settled}
-use Rattle.commands.proofs.Checked.{Checked, checked}
-use Rattle.commands.proofs.CoreEffects.{claimedCores, claimed-delivering, current-same, setCores, set-allDirty}
-use Rattle.commands.proofs.Effects.{wellFormed-consistent, wellFormed-delivering, effect-consistent}
+use Rattle.guarantees.proofs.Checked.{Checked, checked}
+use Rattle.guarantees.proofs.CoreEffects.{claimedCores, claimed-delivering, current-same, setCores, set-allDirty}
+use Rattle.guarantees.proofs.Effects.{wellFormed-consistent, wellFormed-delivering, effect-consistent}
 use Rattle.commands.proofs.Answering.{answers}
-use Rattle.commands.proofs.AtRest.{still, unmoved}
+use Rattle.guarantees.proofs.AtRest.{still, unmoved}
 
 -- ---- claim
 

@@ -1,17 +1,6 @@
--- What is proved here, for the crates above.
-pub mod Accepted
-pub mod Checked
-pub mod Writes
-pub mod SourceEffects
-pub mod CoreEffects
-pub mod Effects
-pub mod Kept
-pub mod Refusals
-pub mod Owners
-pub mod Changes
-pub mod Answering
-pub mod AtRest
-pub mod SourceAnswers
-pub mod Refusing
-pub mod CoreAnswers
-pub mod CoreLoops
+-- From the tests that the code makes to the answers of the definitions.
+mod Answering
+mod Refusing
+mod SourceAnswers
+mod CoreAnswers
+mod CoreLoops

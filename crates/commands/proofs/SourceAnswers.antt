@@ -23,10 +23,10 @@ use Rattle.soundness.proofs.Test.{wellFormed-out}
 use Rattle.settling.specs.Phases.{Consistent, Delivering}
 use Rattle.settling.specs.Runs.{AfterDeliveries}
 use Rattle.settling.proofs.Next.{Settled}
-use Rattle.commands.proofs.Writes.{read-set}
-use Rattle.commands.proofs.Effects.{effect-consistent}
+use Rattle.guarantees.proofs.Writes.{read-set}
+use Rattle.guarantees.proofs.Effects.{effect-consistent}
 use Rattle.commands.proofs.Answering.{answers}
-use Rattle.commands.proofs.AtRest.{still, unmoved, delivered}
+use Rattle.guarantees.proofs.AtRest.{still, unmoved, delivered}
 
 abbrev pub updated : (Source → Source) → Controller → ℕ → Controller
 updated f s i = withSource s i (f (sourceAt s i))

@@ -20,7 +20,7 @@ use Rattle.model.specs.Commands.{soiled, claimedCore}
 use Rattle.model.specs.Ledger.{Ledger, claimedRequest, priorityOf, write, writeCore, writeRequest}
 use Rattle.model.proofs.Bools.{Flag, on, off, flag}
 use Rattle.model.proofs.Boxes.{holds-filled, holds-source, unboxed-in}
-use Rattle.commands.proofs.Writes.{read-set}
+use Rattle.guarantees.proofs.Writes.{read-set}
 use Rattle.ledger.specs.Matches.{Matches, requestOf}
 use Rattle.ledger.proofs.Writes.{read-kept, read-written, boxed-agree}
 use Rattle.ledger.proofs.SourceMatching.{pending-priority}

@@ -22,9 +22,9 @@ use Rattle.model.specs.Ledger.{Ledger, postAccepted, post}
 use Rattle.model.proofs.Bools.{and-l}
 use Rattle.settling.specs.Phases.{Kept}
 use Rattle.settling.proofs.Keeps.{settle-keeps}
-use Rattle.commands.proofs.Checked.{Named, Checked, checked}
-use Rattle.commands.proofs.Accepted.{accepted, execute-accepted, execute-refused}
-use Rattle.commands.proofs.Kept.{execute-settles}
+use Rattle.guarantees.proofs.Checked.{Named, Checked, checked}
+use Rattle.guarantees.proofs.Accepted.{accepted, execute-accepted, execute-refused}
+use Rattle.guarantees.proofs.Kept.{execute-settles}
 use Rattle.ledger.specs.Matches.{Matches, requestOf, MatchKept}
 use Rattle.ledger.proofs.SourceMatching.{configured-matches, mask-matches, trigger-matches, redeliver-matches, complete-matches}
 use Rattle.ledger.proofs.CoreMatching.{core-priority-matches, claim-matches}

@@ -13,7 +13,7 @@ use Rattle.model.specs.Commands.{execute, run}
 use Rattle.model.specs.Ledger.{Ledger, opening, ledger, entryOf, entries, post}
 use Rattle.model.specs.Statements.{InRange, PriorityStrict, DemandThree}
 use Rattle.soundness.proofs.Reset.{core-reset, source-reset, reset-wellFormed, makes-exactly}
-use Rattle.commands.proofs.Kept.{wellFormed-kept, cycles-bounded}
+use Rattle.guarantees.proofs.Kept.{wellFormed-kept, cycles-bounded}
 use Rattle.ledger.specs.Matches.{Matches}
 use Rattle.ledger.proofs.Matching.{match-kept}
 use Rattle.ledger.proofs.Strict.{matched-strict}

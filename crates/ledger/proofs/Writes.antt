@@ -16,7 +16,7 @@ use Rattle.model.specs.Records.{noCore}
 use Rattle.model.specs.Walks.{some}
 use Rattle.model.specs.Requests.{holds, boxed}
 use Rattle.model.specs.Ledger.{write}
-use Rattle.commands.proofs.Writes.{read-set}
+use Rattle.guarantees.proofs.Writes.{read-set}
 
 module _ {A B : Type 0} (read : ℕ → B → A) (l : List B) (i j : ℕ) (r d : B) (inside : i < length l) where
   pub read-kept : read i r ≡ read i (getD l i d) → read j (getD (set l i r) j d) ≡ read j (getD l j d)

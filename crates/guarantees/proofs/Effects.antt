@@ -15,9 +15,9 @@ use Rattle.model.specs.Records.{indexOf, sourceAt, coreAt, withSource, withMask
 use Rattle.model.specs.WellFormed.{Backed, WellFormed}
 use Rattle.model.specs.Commands.{effect, refusalOf}
 use Rattle.settling.specs.Phases.{Holding, Consistent, Delivering, Phase, retracting, delivering}
-use Rattle.commands.proofs.Checked.{Named, named-index, Checked, checked}
-use Rattle.commands.proofs.SourceEffects.{Replaces, withSource-consistent, set-replaces, opened-replaces, redelivered-replaces, ended-replaces}
-use Rattle.commands.proofs.CoreEffects.{withCores-consistent, claimedCores, claimed-recored, claimed-delivering, setCores, set-recored, set-allDirty}
+use Rattle.guarantees.proofs.Checked.{Named, named-index, Checked, checked}
+use Rattle.guarantees.proofs.SourceEffects.{Replaces, withSource-consistent, set-replaces, opened-replaces, redelivered-replaces, ended-replaces}
+use Rattle.guarantees.proofs.CoreEffects.{withCores-consistent, claimedCores, claimed-recored, claimed-delivering, setCores, set-recored, set-allDirty}
 
 sizes : (s : Controller) (o : Command) → ((effect s o) .n ≡ s .n) × ((effect s o) .m ≡ s .m)
 unfolding effect

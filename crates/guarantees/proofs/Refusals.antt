@@ -20,7 +20,7 @@ use Rattle.model.specs.WellFormed.{between, wellFormed, WellFormed}
 use Rattle.model.specs.Commands.{unless, refusalOf, refusal, settled, refused, execute}
 use Rattle.model.specs.Statements.{coreOutOfRange, sourceOutOfRange, priorityOutOfRange, triggersPending, claimsEmpty, actsOnUnclaimed, Refusals, RefusalsExact, RefusedUnchanged}
 use Rattle.soundness.proofs.Test.{test-exact}
-use Rattle.commands.proofs.Accepted.{execute-accepted, execute-refused}
+use Rattle.guarantees.proofs.Accepted.{execute-accepted, execute-refused}
 
 -- ---- a chain of checks, and what its number says
 

@@ -24,9 +24,9 @@ use Rattle.model.specs.Commands.{soiled, claimedCore, effect, refusal, settled,
 use Rattle.model.specs.Statements.{pendingAfter, PendingChanges, configuredAfter, ConfiguredChanges}
 use Rattle.soundness.proofs.Test.{wellFormed-out}
 use Rattle.settling.proofs.Keeps.{settle-keeps}
-use Rattle.commands.proofs.Accepted.{accepted, execute-accepted, execute-refused}
-use Rattle.commands.proofs.Checked.{Named, Checked, checked}
-use Rattle.commands.proofs.Writes.{read-set}
+use Rattle.guarantees.proofs.Accepted.{accepted, execute-accepted, execute-refused}
+use Rattle.guarantees.proofs.Checked.{Named, Checked, checked}
+use Rattle.guarantees.proofs.Writes.{read-set}
 
 -- What settling keeps is after a command what the effect makes of it, or what it was if the command is refused.
 module _ {A : Type 0} (read : Controller → A) (kept : (f : ℕ) (s : Controller) → read (settle f s) ≡ read s) where

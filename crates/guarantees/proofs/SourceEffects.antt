@@ -16,8 +16,8 @@ use Rattle.model.specs.Requests.{holds, boxed, claimed}
 use Rattle.model.proofs.Bools.{and-r, not-out, clash}
 use Rattle.model.proofs.Boxes.{holds-in, holds-filled, holds-source, unboxed-out}
 use Rattle.settling.specs.Phases.{Consistent, Holding}
-use Rattle.commands.proofs.Checked.{InTop}
-use Rattle.commands.proofs.Writes.{read-set}
+use Rattle.guarantees.proofs.Checked.{InTop}
+use Rattle.guarantees.proofs.Writes.{read-set}
 
 -- As far as a box goes: r is pending, delivered and of the same priority if q is.
 abbrev pub SameRequest : Source → Source → Type 0

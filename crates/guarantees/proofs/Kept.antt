@@ -17,8 +17,8 @@ use Rattle.model.specs.Statements.{WellFormedKept, SettlingEnds, StepsBounded, 
 use Rattle.soundness.proofs.Test.{wellFormed-out}
 use Rattle.settling.specs.Phases.{Settles}
 use Rattle.settling.proofs.Ends.{phases-settle}
-use Rattle.commands.proofs.Accepted.{accepted, execute-accepted, execute-refused}
-use Rattle.commands.proofs.Effects.{effect-m, effect-consistent, effect-phase}
+use Rattle.guarantees.proofs.Accepted.{accepted, execute-accepted, execute-refused}
+use Rattle.guarantees.proofs.Effects.{effect-m, effect-consistent, effect-phase}
 
 -- Of an answer, what holds if it is the settled effect and if it is the state given holds of every command's.
 by-answer : (P : Answer → Type 0) (s : Controller) (c : Command) → (refusal s c ≡ 0 → P (settled (effect s c) (answeredId s c))) → P (refused s (refusal s c)) → P (execute s c)

@@ -20,7 +20,7 @@ use Rattle.model.specs.WellFormed.{between}
 use Rattle.model.specs.Commands.{unless, namesSource, namesCore, refusalOf}
 use Rattle.model.proofs.Bools.{not-out}
 use Rattle.soundness.proofs.Exact.{between-exact}
-use Rattle.commands.proofs.Accepted.{passed}
+use Rattle.guarantees.proofs.Accepted.{passed}
 
 abbrev pub InTop : ℕ → ℕ → Type 0
 InTop top p = (1 ≤ p) × (p ≤ top)

@@ -1,0 +1,12 @@
+-- What is proved here, for the crates above.
+pub mod Accepted
+pub mod Checked
+pub mod Writes
+pub mod SourceEffects
+pub mod CoreEffects
+pub mod Effects
+pub mod AtRest
+pub mod Kept
+pub mod Refusals
+pub mod Owners
+pub mod Changes
