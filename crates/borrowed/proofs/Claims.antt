@@ -13,7 +13,7 @@ use Rattle.model.specs.Commands.{claimedCore, malformed, nothingToClaim}
 use Rattle.model.specs.Borrowed.{claimable, takenFrom}
 use Rattle.model.proofs.Priorities.{top-priority-values}
 
-pub top-is : topPriority maxSources ≡ 511
+top-is : topPriority maxSources ≡ 511
 top-is = top-priority-values .3
 
 -- which of three cases two tests pick
@@ -80,18 +80,18 @@ module _ (c : Core) where
   abbrev none : Taken
   none = taken nothingToClaim (sourceId 0) c
 
-  pub taken-empty : (r : Taken) → not (c .message .filled) ≡ true → r ≡ none → r ≡ takenFrom c
+  pub taken-empty : {r : Taken} → not (c .message .filled) ≡ true → r ≡ none → r ≡ takenFrom c
   unfolding takenFrom
-  taken-empty r e q = q ∙ sym (third (c .message .filled) (claimable c) given bad none (not-true (c .message .filled) e))
+  taken-empty e q = q ∙ sym (third (c .message .filled) (claimable c) given bad none (not-true (c .message .filled) e))
 
   module _ (filled : not (c .message .filled) ≡ false) where
-    pub taken-bad : (r : Taken) (b : Bool) → b ≡ claimable c → not b ≡ true → r ≡ bad → r ≡ takenFrom c
+    pub taken-bad : {r : Taken} {b : Bool} → b ≡ claimable c → not b ≡ true → r ≡ bad → r ≡ takenFrom c
     unfolding takenFrom
-    taken-bad r b e f q =
+    taken-bad {b = b} e f q =
         q ∙ sym (second (c .message .filled) (claimable c) given bad none (not-false (c .message .filled) filled) (sym e ∙ not-true b f))
 
-    pub taken-good : (r : Taken) (b : Bool) (d : Core) → b ≡ claimable c → not b ≡ false → d ≡ claimedCore c → r ≡ taken 0 (c .message .source) d → r ≡ takenFrom c
+    pub taken-good : {r : Taken} {b : Bool} {d : Core} → b ≡ claimable c → not b ≡ false → d ≡ claimedCore c → r ≡ taken 0 (c .message .source) d → r ≡ takenFrom c
     unfolding takenFrom
-    taken-good r b d e f g q =
+    taken-good {b = b} e f g q =
         q ∙ ap (λ (x : Core). taken 0 (c .message .source) x) g ∙
         sym (first (c .message .filled) (claimable c) given bad none (not-false (c .message .filled) filled) (sym e ∙ not-false b f))

@@ -1,5 +1,5 @@
 -- The answers of claim and set core priority. Assumes nothing.
---   claim-rests    a claim leaves the state at rest: the core's current priority is the same before and after
+--   claim-rests    a claim settles nothing: its answer is the state with the core claimed
 --   set-begins     what the retractions after set core priority require
 --   set-settles    the retractions and then the deliveries give the command's answer
 use Prim.Native.Nat.{ℕ, _+_, _*_, _-_}
@@ -18,34 +18,20 @@ use Rattle.model.specs.Settling.{settle, cyclesOf}
 use Rattle.model.specs.Commands.{claimedCore, effect, refusalOf, answeredId, settled, execute}
 use Rattle.soundness.proofs.Test.{wellFormed-out}
 use Rattle.settling.specs.declared.Retracted.{Retracted}
-use Rattle.settling.specs.Phases.{Consistent, AllDirty, Delivering}
+use Rattle.settling.specs.Phases.{Consistent, AllDirty}
 use Rattle.settling.specs.Runs.{AfterRetractions, AfterDeliveries}
-use Rattle.settling.proofs.Next.{Settled}
 use Rattle.guarantees.proofs.Checked.{Checked, checked}
-use Rattle.guarantees.proofs.CoreEffects.{claimedCores, claimed-delivering, current-same, setCores, set-allDirty}
-use Rattle.guarantees.proofs.Effects.{wellFormed-consistent, wellFormed-delivering, effect-consistent}
+use Rattle.guarantees.proofs.CoreEffects.{setCores, set-allDirty}
+use Rattle.guarantees.proofs.Effects.{wellFormed-consistent, effect-consistent}
 use Rattle.commands.proofs.Answering.{answers}
-use Rattle.guarantees.proofs.AtRest.{still, unmoved}
+use Rattle.guarantees.proofs.AtRest.{claim-answer}
 
 -- ---- claim
 
-module _ (s : Controller) (k : CoreId) (sound : wellFormed s ≡ true) (passes : refusalOf s (Claim k) ≡ 0) where
-  claimed-settled : Settled (withCores s (claimedCores s (k .0)))
-  claimed-settled i j i-lt j-lt e =
-      let w : WellFormed s = wellFormed-out s sound in
-      let h : Checked s (Claim k) = checked s (Claim k) passes in
-      rw (current-same s (wellFormed-consistent s w) (k .0) (h .0) (h .1) j) (w .candidates-settled i j i-lt j-lt e)
-
-  pub claim-rests : {d : Core} → d ≡ claimedCore (coreAt s (k .0)) → {r : Answer} → r ≡ answer (withCore s (k .0) d) 0 ((coreAt s (k .0)) .message .source .0) 0 → r ≡ execute s (Claim k)
-  unfolding effect answeredId
-  claim-rests new is =
-      let w : WellFormed s = wellFormed-out s sound in
-      let h : Checked s (Claim k) = checked s (Claim k) passes in
-      let after : Controller = withCores s (claimedCores s (k .0)) in
-      let c : Consistent after = effect-consistent s (Claim k) w passes in
-      let d : Delivering after = claimed-delivering s (wellFormed-consistent s w) (k .0) (h .0) (h .1) (wellFormed-delivering s w) in
-      is ∙ rw new (sym (unmoved after (still after c d claimed-settled) ((coreAt s (k .0)) .message .source .0)) ∙
-      answers s (Claim k) sound passes)
+pub claim-rests : (s : Controller) (k : CoreId) → wellFormed s ≡ true → refusalOf s (Claim k) ≡ 0 → {d : Core} → d ≡ claimedCore (coreAt s (k .0)) → {r : Answer} → r ≡ answer (withCore s (k .0) d) 0 ((coreAt s (k .0)) .message .source .0) 0 → r ≡ execute s (Claim k)
+claim-rests s k sound passes new is =
+    let (k-lt, filled) = checked s (Claim k) passes in
+    is ∙ rw new (sym (claim-answer s (wellFormed-out s sound) k k-lt filled))
 
 -- ---- set core priority
 

@@ -1,21 +1,31 @@
 -- What is left of an effect to settle. Assumes nothing.
---   still        a consistent state with no box dirty and no candidate above a core is at rest
---   unmoved      at rest settling answers the state as it is, with 0 cycles
---   delivered    the deliveries from an effect on, where nothing is to be retracted, are its settling
-use Prim.Native.Nat.{ℕ, _*_}
+--   still           a consistent state with no box dirty and no candidate above a core is at rest
+--   unmoved         at rest settling answers the state as it is, with 0 cycles
+--   delivered       the deliveries from an effect on, where nothing is to be retracted, are its settling
+--   claim-answer    a claim leaves nothing to settle: every core's current priority is the same before and after
+use Prim.Native.Nat.{ℕ, _*_, _<_}
 use mathlib.Core.Path.{_≡_, refl, ap, _∙_}
+use mathlib.Core.Bool.{true}
 use native.Mathlib.Omega.{arith}
+use borrow.Author.Tests.{lt-ltb}
+use Rattle.model.specs.declared.CoreId.{CoreId}
 use Rattle.model.specs.declared.Controller.{Controller}
 use Rattle.model.specs.declared.Answer.{Answer}
+use Rattle.model.specs.declared.Command.the-variants.{Claim}
 use Rattle.model.specs.declared.Cycle.the-variants.{Rest}
-use Rattle.model.specs.Records.{answer}
+use Rattle.model.specs.Records.{coreAt, withCore, answer}
+use Rattle.model.specs.WellFormed.{WellFormed}
 use Rattle.model.specs.Settling.{next, settle, isRetraction, isDelivery, cyclesOf}
-use Rattle.model.specs.Commands.{settled}
+use Rattle.model.specs.Commands.{claimedCore, effect, refusalOf, refusal, answeredId, settled, execute}
 use Rattle.model.proofs.Bools.{clash}
+use Rattle.soundness.proofs.Test.{wellFormed-in}
 use Rattle.settling.specs.Phases.{Consistent, Delivering}
 use Rattle.settling.specs.Runs.{AfterDeliveries}
 use Rattle.settling.proofs.Next.{Settled, Next, resting, retracting, arbitrating, next-cases}
 use Rattle.settling.proofs.Run.{settle-rest, count-rest}
+use Rattle.guarantees.proofs.Accepted.{execute-accepted}
+use Rattle.guarantees.proofs.CoreEffects.{claimed-delivering, current-same}
+use Rattle.guarantees.proofs.Effects.{wellFormed-consistent, wellFormed-delivering, effect-begins}
 
 pub still : (s : Controller) → Consistent s → Delivering s → Settled s → next s ≡ Rest
 still s c d calm = go (next-cases s (c .some-source) (c .some-core))
@@ -37,3 +47,27 @@ module _ (s : Controller) (rest : next s ≡ Rest) where
 pub delivered : (s : Controller) (id : ℕ) {r : Answer} → AfterDeliveries s id 0 r → r ≡ settled s id
 unfolding settled
 delivered s id {r} after = after (2 * s .m) (omega arith) ∙ ap (answer (settle (2 * s .m) s) 0 id) (omega arith)
+
+module _ (s : Controller) (w : WellFormed s) (k : CoreId) (k-lt : k .0 < s .m) (filled : (coreAt s (k .0)) .message .filled ≡ true) where
+  abbrev after : Controller
+  after = withCore s (k .0) (claimedCore (coreAt s (k .0)))
+
+  old : Consistent s
+  old = wellFormed-consistent s w
+
+  claim-accepted : refusal s (Claim k) ≡ 0
+  unfolding refusal refusalOf
+  claim-accepted = rw (wellFormed-in s w, lt-ltb (k .0) (s .m) k-lt, filled)
+
+  claim-rests : next after ≡ Rest
+  unfolding effect
+  claim-rests =
+      still after
+      ((effect-begins s w (Claim k) (k-lt, filled)) .0)
+      (claimed-delivering s old (k .0) k-lt filled (wellFormed-delivering s w))
+      (λ i j i-lt j-lt e. rw (current-same s old (k .0) k-lt filled j) (w .candidates-settled i j i-lt j-lt e))
+
+  pub claim-answer : execute s (Claim k) ≡ answer after 0 ((coreAt s (k .0)) .message .source .0) 0
+  unfolding effect answeredId
+  claim-answer =
+      execute-accepted s (Claim k) claim-accepted ∙ unmoved after claim-rests ((coreAt s (k .0)) .message .source .0)

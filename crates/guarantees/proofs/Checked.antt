@@ -1,10 +1,12 @@
--- What a command's own checks say of its arguments if it is accepted. Assumes nothing.
+-- What the checks say of the state and of a command's arguments if it is accepted. Assumes nothing.
 --   InTop top p     p is 1 to top
 --   Named s id      id is 1 to n
---   Checked s c     what the checks of command c say, in their order
+--   Checked s c     what the checks of command c say of its arguments, in their order
+--   by-index        from the indices of sources to their ids
 --   checked         they say it of a command that they don't refuse
-use Prim.Native.Nat.{ℕ, suc, pred, _<_, _≤_}
-use mathlib.Core.Path.{_≡_}
+--   accepted        a command that is not refused finds a sound state besides
+use Prim.Native.Nat.{ℕ, zero, suc, pred, _<_, _≤_}
+use mathlib.Core.Path.{_≡_, refl}
 use mathlib.Core.Bool.{Bool, true, false, not}
 use lib.Dec.{leb}
 use native.Mathlib.Omega.{arith}
@@ -16,11 +18,11 @@ use Rattle.model.specs.declared.Command.the-variants.{SetSourcePriority, Mask, 
 use Rattle.model.specs.Records.{indexOf, sourceAt, coreAt}
 use Rattle.model.specs.Priorities.{topPriority}
 use Rattle.model.specs.Requests.{claimed}
-use Rattle.model.specs.WellFormed.{between}
-use Rattle.model.specs.Commands.{unless, namesSource, namesCore, refusalOf}
+use Rattle.model.specs.WellFormed.{between, wellFormed, WellFormed}
+use Rattle.model.specs.Commands.{unless, namesSource, namesCore, refusalOf, refusal}
 use Rattle.model.proofs.Bools.{not-out}
 use Rattle.soundness.proofs.Exact.{between-exact}
-use Rattle.guarantees.proofs.Accepted.{passed}
+use Rattle.soundness.proofs.Test.{wellFormed-out}
 
 abbrev pub InTop : ℕ → ℕ → Type 0
 InTop top p = (1 ≤ p) × (p ≤ top)
@@ -44,6 +46,16 @@ module _ (s : Controller) (id : SourceId) where
 
   pub named-index : Named s id → indexOf id < s .n
   named-index h = let lt : pred (id .0) < s .n = omega arith in lt
+
+-- what holds of id i + 1 for each index i below n holds of each id from 1 to n
+pub by-index : {n : ℕ} (P : ℕ → Type 0) → ((i : ℕ) → i < n → P (suc i)) → (id : ℕ) → InTop n id → P id
+by-index P each zero h = absurd (omega arith)
+by-index P each (suc i) h = each i (omega arith)
+
+-- a check that gives no number was passed, and so were the later ones
+passed : (b : Bool) (number later : ℕ) → unless b (suc number) later ≡ 0 → (b ≡ true) × (later ≡ 0)
+passed true number later e = (refl, e)
+passed false number later e = absurd (omega arith)
 
 both : (a b : Bool) (x y : ℕ) → unless a (suc x) (unless b (suc y) 0) ≡ 0 → (a ≡ true) × (b ≡ true)
 both a b x y e =
@@ -73,3 +85,8 @@ checked s (Redeliver id) e =
 checked s (Complete id) e =
     let (a, b) = both (namesSource s id) (claimed s (indexOf id)) 3 7 e in
     (named s id a, b)
+
+pub accepted : (s : Controller) (c : Command) → refusal s c ≡ 0 → WellFormed s × Checked s c
+unfolding refusal
+accepted s c e =
+    let (sound, checks) = passed (wellFormed s) 0 (refusalOf s c) e in (wellFormed-out s sound, checked s c checks)

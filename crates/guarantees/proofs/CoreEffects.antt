@@ -2,6 +2,8 @@
 --   Carried c d             the box of d holds the request that the box of c held, above d's configured priority if it is clean
 --   Recored s l             what cores l must satisfy to stand in state s: a filled box holds what it held
 --   withCores-consistent    such a write keeps `Consistent`
+--   box-range               a filled box's priority is 1 to top
+--   current-same            a claim leaves every core's current priority as it was
 -- and the cores after the two commands are such cores, in the phase that settling begins with.
 use Prim.Native.Nat.{ℕ, pred, _<_, _≤_}
 use mathlib.Core.Path.{_≡_, refl, sym, ap, _∙_}
@@ -17,6 +19,7 @@ use Rattle.model.specs.Requests.{currentPriority}
 use Rattle.model.specs.Commands.{soiled, claimedCore}
 use Rattle.model.proofs.Bools.{clash}
 use Rattle.settling.specs.Phases.{Consistent, Holding, AllDirty, Delivering}
+use Rattle.guarantees.proofs.Checked.{InTop}
 use Rattle.guarantees.proofs.Writes.{read-set}
 
 pub record Carried (c d : Core) : Type 0 where
@@ -81,18 +84,18 @@ module _ (s : Controller) (c : Consistent s) (k : ℕ) (k-lt : k < s .m) (filled
       let fits : k < length (s .cores) = omega arith in
       read-set P (s .cores) k j (claimedCore (coreAt s k)) noCore fits same (λ h. old)
 
-  -- the core rises to a priority in range: that of a pending request
-  raised-le : (coreAt s k) .message .priority ≤ topPriority (s .n)
-  raised-le =
+  -- the box's priority is that of a pending request
+  pub box-range : InTop (topPriority (s .n)) ((coreAt s k) .message .priority)
+  box-range =
       let old : Holding s (coreAt s k) = c .backed k k-lt filled in
       let i-lt : pred ((coreAt s k) .message .source .0) < s .n = omega arith in
-      rw (old .same-priority) at ((c .request-range (indexOf ((coreAt s k) .message .source)) i-lt (old .pending)) .1)
+      rw (old .same-priority) at (c .request-range (indexOf ((coreAt s k) .message .source)) i-lt (old .pending))
 
   pub claimed-recored : Recored s (claimedCores s k)
   claimed-recored =
       record {
         cores-length = length-set (s .cores) k (claimedCore (coreAt s k)) ∙ c .cores-length;
-        configured = λ j h. read-claimed (λ d. d .configured ≤ topPriority (s .n)) j (λ e. raised-le) (c .configured-core j h);
+        configured = λ j h. read-claimed (λ d. d .configured ≤ topPriority (s .n)) j (λ e. box-range .1) (c .configured-core j h);
         empty = λ j h. read-claimed (λ d. d .message .filled ≡ false → d .message ≡ emptyBox) j (λ e f. refl) (c .empty-box j h);
         spare = λ j h l. read-claimed (λ d. d ≡ resetCore) j (λ e. absurd (omega arith)) (c .spare-core j h l);
         carried = λ j h.

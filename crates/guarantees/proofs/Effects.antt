@@ -1,7 +1,7 @@
 -- After an accepted command and before its settling: the state is consistent and in one of settling's two phases. Assumes nothing.
---   effect-n, effect-m    the sizes stay
---   effect-consistent     from a sound state
---   effect-phase          set core priority leaves every filled box dirty; the other commands leave none dirty
+--   effect-m             the number of cores stays
+--   effect-begins        from a sound state; set core priority leaves every filled box dirty, the other commands leave none dirty
+--   effect-consistent    the first half of it, from the checks
 use Prim.Native.Nat.{ℕ, _<_}
 use mathlib.Core.Path.{_≡_, refl}
 use mathlib.Core.Bool.{Bool, true, false}
@@ -19,23 +19,16 @@ use Rattle.guarantees.proofs.Checked.{Named, named-index, Checked, chec
 use Rattle.guarantees.proofs.SourceEffects.{Replaces, withSource-consistent, set-replaces, opened-replaces, redelivered-replaces, ended-replaces}
 use Rattle.guarantees.proofs.CoreEffects.{withCores-consistent, claimedCores, claimed-recored, claimed-delivering, setCores, set-recored, set-allDirty}
 
-sizes : (s : Controller) (o : Command) → ((effect s o) .n ≡ s .n) × ((effect s o) .m ≡ s .m)
+pub effect-m : (s : Controller) (o : Command) → (effect s o) .m ≡ s .m
 unfolding effect
-sizes s (SetSourcePriority id p) = (refl, refl)
-sizes s (Mask id) = (refl, refl)
-sizes s (Unmask id) = (refl, refl)
-sizes s (SetCorePriority k p) = (refl, refl)
-sizes s (Trigger id) = (refl, refl)
-sizes s (Claim k) = (refl, refl)
-sizes s (Redeliver id) = (refl, refl)
-sizes s (Complete id) = (refl, refl)
-
-module _ (s : Controller) (o : Command) where
-  pub effect-n : (effect s o) .n ≡ s .n
-  effect-n = (sizes s o) .0
-
-  pub effect-m : (effect s o) .m ≡ s .m
-  effect-m = (sizes s o) .1
+effect-m s (SetSourcePriority id p) = refl
+effect-m s (Mask id) = refl
+effect-m s (Unmask id) = refl
+effect-m s (SetCorePriority k p) = refl
+effect-m s (Trigger id) = refl
+effect-m s (Claim k) = refl
+effect-m s (Redeliver id) = refl
+effect-m s (Complete id) = refl
 
 -- ---- a sound state, as settling sees it
 
@@ -94,27 +87,24 @@ module _ (s : Controller) (w : WellFormed s) where
       let i : ℕ = indexOf id in
       source-begun id h (λ l. set-replaces s old i l ((sourceAt s i) .configured) b (w .configured-source i l))
 
-  begun : (o : Command) → Checked s o → Begun (effect s o)
+  pub effect-begins : (o : Command) → Checked s o → Begun (effect s o)
   unfolding effect
-  begun (SetSourcePriority id p) (h, range) =
+  effect-begins (SetSourcePriority id p) (h, range) =
       let i : ℕ = indexOf id in
       source-begun id h (λ l. set-replaces s old i l p ((sourceAt s i) .masked) range)
-  begun (Mask id) h = mask-begun id true h
-  begun (Unmask id) h = mask-begun id false h
-  begun (SetCorePriority k p) (h, range) = (
+  effect-begins (Mask id) h = mask-begun id true h
+  effect-begins (Unmask id) h = mask-begun id false h
+  effect-begins (SetCorePriority k p) (h, range) = (
     withCores-consistent s old (setCores s (k .0) p) (set-recored s old (k .0) h p range),
     retracting (set-allDirty s old (k .0) h p range),
   )
-  begun (Trigger id) (h, idle) = source-begun id h (λ l. opened-replaces s old (indexOf id) l idle)
-  begun (Claim k) (h, filled) = (
+  effect-begins (Trigger id) (h, idle) = source-begun id h (λ l. opened-replaces s old (indexOf id) l idle)
+  effect-begins (Claim k) (h, filled) = (
     withCores-consistent s old (claimedCores s (k .0)) (claimed-recored s old (k .0) h filled),
     delivering (claimed-delivering s old (k .0) h filled (wellFormed-delivering s w)),
   )
-  begun (Redeliver id) (h, taken) = source-begun id h (λ l. redelivered-replaces s old (indexOf id) l taken)
-  begun (Complete id) (h, taken) = source-begun id h (λ l. ended-replaces s old (indexOf id) l taken)
+  effect-begins (Redeliver id) (h, taken) = source-begun id h (λ l. redelivered-replaces s old (indexOf id) l taken)
+  effect-begins (Complete id) (h, taken) = source-begun id h (λ l. ended-replaces s old (indexOf id) l taken)
 
 pub effect-consistent : (s : Controller) (o : Command) → WellFormed s → refusalOf s o ≡ 0 → Consistent (effect s o)
-effect-consistent s o w e = (begun s w o (checked s o e)) .0
-
-pub effect-phase : (s : Controller) (o : Command) → WellFormed s → refusalOf s o ≡ 0 → Phase (effect s o)
-effect-phase s o w e = (begun s w o (checked s o e)) .1
+effect-consistent s o w e = (effect-begins s w o (checked s o e)) .0

@@ -1,32 +1,21 @@
--- A command keeps a sound state sound, and settles within its bounds.
--- Assumes nothing.
+-- A command keeps a sound state sound, and settles within its bounds. Assumes nothing.
 --   execute-settles    what settling does after an accepted command
 --   wellFormed-kept, settling-ends, steps-bounded, cycles-bounded    the statements of those names
 use Prim.Native.Nat.{ℕ, _*_, _≤_}
 use mathlib.Core.Path.{_≡_, subst}
 use native.Mathlib.Omega.{arith}
-use native.Mathlib.Decide.{ℕ-discrete}
 use Rattle.model.specs.declared.Controller.{Controller}
 use Rattle.model.specs.declared.Cycle.{Cycle}
-use Rattle.model.specs.declared.Answer.{Answer}
 use Rattle.model.specs.declared.Command.{Command}
 use Rattle.model.specs.WellFormed.{WellFormed}
 use Rattle.model.specs.Settling.{isRetraction, isDelivery, countOf, cyclesOf}
-use Rattle.model.specs.Commands.{effect, refusal, answeredId, settled, refused, execute}
+use Rattle.model.specs.Commands.{effect, refusal, settled, refused}
 use Rattle.model.specs.Statements.{WellFormedKept, SettlingEnds, StepsBounded, CyclesBounded}
-use Rattle.soundness.proofs.Test.{wellFormed-out}
 use Rattle.settling.specs.Phases.{Settles}
 use Rattle.settling.proofs.Ends.{phases-settle}
-use Rattle.guarantees.proofs.Accepted.{accepted, execute-accepted, execute-refused}
-use Rattle.guarantees.proofs.Effects.{effect-m, effect-consistent, effect-phase}
-
--- Of an answer, what holds if it is the settled effect and if it is the state given holds of every command's.
-by-answer : (P : Answer → Type 0) (s : Controller) (c : Command) → (refusal s c ≡ 0 → P (settled (effect s c) (answeredId s c))) → P (refused s (refusal s c)) → P (execute s c)
-by-answer P s c settles stays = go (ℕ-discrete (refusal s c) 0)
-  where
-    go : Dec (refusal s c ≡ 0) → P (execute s c)
-    go (yes e) = rw (execute-accepted s c e) (settles e)
-    go (no h) = rw (execute-refused s c h) stays
+use Rattle.guarantees.proofs.Accepted.{execute-accepted, by-answer}
+use Rattle.guarantees.proofs.Checked.{accepted}
+use Rattle.guarantees.proofs.Effects.{effect-m, effect-begins}
 
 -- a bound in the effect's number of cores is one in the number before
 bound-same : (s : Controller) (c : Command) (kind : Cycle → ℕ) → countOf kind (2 * (effect s c) .m) (effect s c) ≤ (effect s c) .m → countOf kind (2 * s .m) (effect s c) ≤ s .m
@@ -34,13 +23,13 @@ bound-same s c kind h = subst (λ m. countOf kind (2 * m) (effect s c) ≤ m) (e
 
 pub execute-settles : (s : Controller) (c : Command) → refusal s c ≡ 0 → Settles (effect s c)
 execute-settles s c e =
-    let (sound, checks) = accepted s c e in
-    let w : WellFormed s = wellFormed-out s sound in
-    phases-settle (effect s c) (effect-consistent s c w checks) (effect-phase s c w checks)
+    let (w, checks) = accepted s c e in
+    let (consistent, phase) = effect-begins s w c checks in
+    phases-settle (effect s c) consistent phase
 
 pub wellFormed-kept : WellFormedKept
 unfolding settled refused
-wellFormed-kept s c w = by-answer (λ a. WellFormed (a .state)) s c (λ e. (execute-settles s c e) .wellFormed) w
+wellFormed-kept s c w = by-answer s c (λ a. WellFormed (a .state)) (λ e. (execute-settles s c e) .wellFormed) (λ h. w)
 
 pub settling-ends : SettlingEnds
 unfolding settled
@@ -57,6 +46,6 @@ steps-bounded s c e =
 pub cycles-bounded : CyclesBounded
 unfolding settled refused cyclesOf
 cycles-bounded s c =
-    by-answer (λ a. a .cycles ≤ 2 * s .m) s c
+    by-answer s c (λ a. a .cycles ≤ 2 * s .m)
     (λ e. let done : Settles (effect s c) = execute-settles s c e in omega (arith, effect-m s c))
-    (omega arith)
+    (λ h. omega arith)

@@ -2,11 +2,11 @@
 pub mod Accepted
 pub mod Checked
 pub mod Writes
+pub mod Owners
 pub mod SourceEffects
 pub mod CoreEffects
 pub mod Effects
 pub mod AtRest
 pub mod Kept
 pub mod Refusals
-pub mod Owners
 pub mod Changes

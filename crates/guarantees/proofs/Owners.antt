@@ -1,15 +1,19 @@
 -- A pending request of a sound state has exactly one owner, its source, one box or the software, and a request that is not
 -- pending has none (`OneOwner`): the delivered mark and whether a box names the source tell the owners apart. Assumes nothing.
+--   claimed-out    a claimed request is pending and delivered, and lies in no box
 use Prim.Native.Nat.{ℕ, suc, pred}
 use mathlib.Core.Path.{_≡_, refl, sym, _∙_, ap}
-use mathlib.Core.Bool.{Bool, true, false, not, _&&_}
+use mathlib.Core.Bool.{Bool, true, false, not}
 use Rattle.model.specs.declared.Controller.{Controller}
 use Rattle.model.specs.Records.{indexOf, sourceAt, coreAt}
-use Rattle.model.specs.Requests.{boxed, Owner, bySource, byBox, bySoftware, Owns}
+use Rattle.model.specs.Requests.{boxed, claimed, Owner, bySource, byBox, bySoftware, Owns}
 use Rattle.model.specs.WellFormed.{WellFormed, Backed}
 use Rattle.model.specs.Statements.{OneOwner}
 use Rattle.model.proofs.Bools.{and-in, and-l, and-r, not-in, not-out, Flag, on, off, flag}
 use Rattle.model.proofs.Boxes.{holds-filled, holds-source, boxed-in, boxed-out}
+
+pub claimed-out : (s : Controller) (i : ℕ) → claimed s i ≡ true → ((sourceAt s i) .pending ≡ true) × ((sourceAt s i) .delivered ≡ true) × (boxed (s .cores) (s .m) (suc i) ≡ false)
+claimed-out s i e = search (and-l, and-r, not-out) depth 8
 
 module _ (s : Controller) (sound : WellFormed s) (i : ℕ) where
   abbrev pending : Bool
@@ -43,10 +47,7 @@ module _ (s : Controller) (sound : WellFormed s) (i : ℕ) where
   standing : (o : Owner) → Owns s i o → Standing o delivered inBox
   standing bySource h = rw (not-out delivered (and-r pending (not delivered) h)) (waits inBox)
   standing (byBox k) h = rw ((held k h) .1, boxed-in (s .cores) (s .m) (suc i) k (h .0) (h .1)) (lies k h)
-  standing bySoftware h =
-      let d : delivered ≡ true = and-r pending delivered (and-l (pending && delivered) (not inBox) h) in
-      let b : inBox ≡ false = not-out inBox (and-r (pending && delivered) (not inBox) h) in
-      rw (d, b) taken
+  standing bySoftware h = let (p, d, b) = claimed-out s i h in rw (d, b) taken
 
   -- two owners of one standing are the same
   sole : {o o′ : Owner} {d b : Bool} → Standing o d b → Standing o′ d b → o′ ≡ o
@@ -57,7 +58,7 @@ module _ (s : Controller) (sound : WellFormed s) (i : ℕ) where
   owned-pending : (o : Owner) → Owns s i o → pending ≡ true
   owned-pending bySource h = and-l _ _ h
   owned-pending (byBox k) h = (held k h) .0
-  owned-pending bySoftware h = and-l _ _ (and-l _ _ h)
+  owned-pending bySoftware h = (claimed-out s i h) .0
 
   owner : pending ≡ true → (o : Owner) × Owns s i o
   owner p = go (flag delivered) (flag inBox)

@@ -7,7 +7,7 @@ use mathlib.Core.Path.{_≡_, refl, sym, _∙_, ap, subst}
 use mathlib.Core.Logic.{_↔_}
 use mathlib.Core.Bool.{Bool, true, false, not, _||_, cond, false≢true}
 use native.Mathlib.Omega.{arith}
-use native.Mathlib.Decide.{decLe, ℕ-discrete}
+use native.Mathlib.Decide.{decLe}
 use lib.Dec.{ltb, leb, eqb, lit≤}
 use borrow.Author.Tests.{lt-ltb, le-ltb, le-leb, lt-leb, ne-eqb}
 use Rattle.model.specs.declared.Controller.{Controller}
@@ -17,10 +17,10 @@ use Rattle.model.specs.Records.{indexOf, sourceAt, coreAt}
 use Rattle.model.specs.Priorities.{topPriority}
 use Rattle.model.specs.Requests.{claimed}
 use Rattle.model.specs.WellFormed.{between, wellFormed, WellFormed}
-use Rattle.model.specs.Commands.{unless, refusalOf, refusal, settled, refused, execute}
+use Rattle.model.specs.Commands.{unless, refusalOf, refusal, settled, refused}
 use Rattle.model.specs.Statements.{coreOutOfRange, sourceOutOfRange, priorityOutOfRange, triggersPending, claimsEmpty, actsOnUnclaimed, Refusals, RefusalsExact, RefusedUnchanged}
 use Rattle.soundness.proofs.Test.{test-exact}
-use Rattle.guarantees.proofs.Accepted.{execute-accepted, execute-refused}
+use Rattle.guarantees.proofs.Accepted.{execute-refused, by-answer}
 
 -- ---- a chain of checks, and what its number says
 
@@ -180,8 +180,4 @@ refusals-exact = refusals
 
 pub refused-unchanged : RefusedUnchanged
 unfolding refused settled
-refused-unchanged s c = (execute-refused s c, go (ℕ-discrete (refusal s c) 0))
-  where
-    go : Dec (refusal s c ≡ 0) → (execute s c) .number ≡ refusal s c
-    go (yes e) = rw (execute-accepted s c e) (sym e)
-    go (no h) = rw (execute-refused s c h)
+refused-unchanged s c = (execute-refused s c, by-answer s c (λ a. a .number ≡ refusal s c) (λ e. sym e) (λ h. refl))

@@ -4,7 +4,7 @@
 -- and the records of the six commands that write one are such records.
 use Prim.Native.Nat.{ℕ, suc, pred, _<_, _≤_}
 use mathlib.Core.Path.{_≡_, refl, _∙_}
-use mathlib.Core.Bool.{Bool, true, false, not, _&&_}
+use mathlib.Core.Bool.{Bool, true, false}
 use lib.ListN.{length, length-set}
 use native.Mathlib.Omega.{arith}
 use Rattle.model.specs.declared.Source.{Source}
@@ -12,11 +12,12 @@ use Rattle.model.specs.declared.Core.{Core}
 use Rattle.model.specs.declared.Controller.{Controller}
 use Rattle.model.specs.Records.{noSource, resetSource, indexOf, sourceAt, coreAt, withSource, withConfigured, withMask, withDelivered, opened, ended}
 use Rattle.model.specs.Priorities.{topPriority}
-use Rattle.model.specs.Requests.{holds, boxed, claimed}
-use Rattle.model.proofs.Bools.{and-r, not-out, clash}
+use Rattle.model.specs.Requests.{holds, claimed}
+use Rattle.model.proofs.Bools.{clash}
 use Rattle.model.proofs.Boxes.{holds-in, holds-filled, holds-source, unboxed-out}
 use Rattle.settling.specs.Phases.{Consistent, Holding}
 use Rattle.guarantees.proofs.Checked.{InTop}
+use Rattle.guarantees.proofs.Owners.{claimed-out}
 use Rattle.guarantees.proofs.Writes.{read-set}
 
 -- As far as a box goes: r is pending, delivered and of the same priority if q is.
@@ -111,9 +112,7 @@ module _ (s : Controller) (c : Consistent s) (i : ℕ) (i-lt : i < s .n) where
       }
 
   claimed-unboxed : claimed s i ≡ true → (k : ℕ) → k < s .m → holds (suc i) (coreAt s k) ≡ true → ⊥
-  claimed-unboxed e k h f =
-      let out : boxed (s .cores) (s .m) (suc i) ≡ false = not-out (boxed (s .cores) (s .m) (suc i)) (and-r ((sourceAt s i) .pending && (sourceAt s i) .delivered) (not (boxed (s .cores) (s .m) (suc i))) e) in
-      clash f (unboxed-out (s .cores) (s .m) (suc i) out k h)
+  claimed-unboxed e k h f = clash f (unboxed-out (s .cores) (s .m) (suc i) ((claimed-out s i e) .2) k h)
 
   pub redelivered-replaces : claimed s i ≡ true → Replaces s i (withDelivered false (sourceAt s i))
   redelivered-replaces e =

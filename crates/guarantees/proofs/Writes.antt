@@ -1,11 +1,17 @@
--- What is read after one element of a list is written: for any property, whatever the index read. Assumes nothing.
+-- What is read after one element of a list is written, whatever the index read. Assumes nothing.
+--   read-set        a property of it: of the element written where that is read, else of the element that was there
+--   read-kept       the element written reads as the one before it: what is read stays
+--   read-written    a choice by whether the place written is read, between what the two elements read
 use Prim.Native.Nat.{ℕ, _<_}
-use mathlib.Core.Path.{_≡_}
-use mathlib.Core.Logic.{_≢_}
+use mathlib.Core.Path.{_≡_, refl}
+use mathlib.Core.Logic.{_↔_, _≢_}
 use mathlib.Core.List.{List}
+use mathlib.Core.Bool.{cond}
+use lib.Dec.{eqb}
 use lib.ListN.{length, getD, set}
 use lib.Seq.{getD-set-same, getD-set-other}
 use native.Mathlib.Decide.{ℕ-discrete}
+use borrow.Author.Tests.{eq-eqb, ne-eqb}
 
 module _ {A : Type 0} (P : A → Type 0) (l : List A) (i j : ℕ) (a d : A) where
   pub read-set : i < length l → (j ≡ i → P a) → (j ≢ i → P (getD l j d)) → P (getD (set l i a) j d)
@@ -14,3 +20,14 @@ module _ {A : Type 0} (P : A → Type 0) (l : List A) (i j : ℕ) (a d : A) wher
       go : Dec (j ≡ i) → P (getD (set l i a) j d)
       go (yes e) = rw (e, getD-set-same l i a d fits) (same e)
       go (no h) = rw (getD-set-other l i j a d h) (other h)
+
+module _ {A B : Type 0} (read : ℕ → A → B) (l : List A) (i j : ℕ) (a d : A) (fits : i < length l) where
+  pub read-kept : read i a ≡ read i (getD l i d) → read j (getD (set l i a) j d) ≡ read j (getD l j d)
+  read-kept same = read-set (λ x. read j x ≡ read j (getD l j d)) l i j a d fits (λ e. rw e same) (λ h. refl)
+
+  -- x and y are equal exactly where the place written is read
+  pub read-written : (x y : ℕ) → (x ≡ y) ↔ (j ≡ i) → {v u : B} → (j ≡ i → v ≡ read j a) → u ≡ read j (getD l j d) → cond (eqb x y) v u ≡ read j (getD (set l i a) j d)
+  read-written x y place {v} {u} new old =
+      read-set (λ q. cond (eqb x y) v u ≡ read j q) l i j a d fits
+      (λ e. rw (eq-eqb x y (place .1 e)) (new e))
+      (λ h. rw (ne-eqb x y (λ e. h (place .0 e))) old)

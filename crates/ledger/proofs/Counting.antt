@@ -118,11 +118,6 @@ one-le t x = go (reached t x)
     go (up p e) = omega arith
     go (under p e) = omega arith
 
-reach-length : (t : ℕ) (l : List ℕ) → reach t l ≤ length l
-unfolding reach
-reach-length t [] = omega arith
-reach-length t (x ∷ xs) = omega (arith, one-le t x, reach-length t xs)
-
 -- ---- rows
 
 pub row-length : (n : ℕ) (f : ℕ → ℕ) → length (row n f) ≡ n
@@ -136,7 +131,9 @@ row-cong zero f g h = refl
 row-cong (suc k) f g h = rw (h k (omega arith), row-cong k f g (λ i p. h i (omega arith)))
 
 pub row-reach-le : (t n : ℕ) (f : ℕ → ℕ) → reach t (row n f) ≤ n
-row-reach-le t n f = omega (arith, reach-length t (row n f), row-length n f)
+unfolding gather reach
+row-reach-le t zero f = omega arith
+row-reach-le t (suc k) f = rw reach-append (omega (arith, one-le t (f k), row-reach-le t k f))
 
 -- every number of the row is at or above the threshold
 pub row-reach-all : (t n : ℕ) (f : ℕ → ℕ) → ((k : ℕ) → k < n → t ≤ f k) → n ≤ reach t (row n f)

@@ -1,44 +1,25 @@
 -- The filled boxes of a sound state that the ledger matches are a placement, and give each core its current priority. Assumes nothing.
---   Held              what the filled box of core k says of the ledger
---   unboxed-waits     an open request in no box waits, at the priority of the ledger
-use Prim.Native.Nat.{ℕ, zero, suc, _≤_, _<_}
-use mathlib.Core.Path.{_≡_, refl, sym}
-use mathlib.Core.Bool.{Bool, true, false, cond, _&&_, not, true≢false}
+--   Held    what the filled box of core k says of the ledger
+use Prim.Native.Nat.{ℕ, suc, _≤_, _<_}
+use mathlib.Core.Path.{_≡_, refl}
+use mathlib.Core.Bool.{Bool, true, false, cond, not}
 use native.Mathlib.Omega.{arith}
 use borrow.Author.Tests.{lt-ltb}
 use Rattle.model.specs.declared.Controller.{Controller}
-use Rattle.model.specs.Records.{sourceAt, coreAt}
-use Rattle.model.specs.Requests.{currentPriority, waiting, boxed, claimed}
+use Rattle.model.specs.Records.{coreAt}
+use Rattle.model.specs.Requests.{currentPriority, boxed}
 use Rattle.model.specs.WellFormed.{WellFormed, Backed}
-use Rattle.model.specs.Ledger.{Ledger, noRequest, openRequest, claimedRequest, priorityOf, isOpen, competes, requestPriority, Placement, given, inBoxes}
+use Rattle.model.specs.Ledger.{Ledger, openRequest, competes, requestPriority, Placement, given, inBoxes}
 use Rattle.model.proofs.Bools.{or-in-l, Flag, on, off, flag}
 use Rattle.model.proofs.Boxes.{holds-in, boxed-in}
-use Rattle.ledger.specs.Matches.{requestOf, Matches}
+use Rattle.guarantees.proofs.Checked.{by-index}
+use Rattle.ledger.specs.Matches.{Matches}
 use Rattle.ledger.proofs.Placements.{competes-in}
-
--- ---- the request of a source, by its flags
-
-open-priority :
-    (pending c : Bool) (p : ℕ) → isOpen (cond pending (cond c (claimedRequest p) (openRequest p)) noRequest) ≡ true →
-    priorityOf (cond pending (cond c (claimedRequest p) (openRequest p)) noRequest) ≡ p
-open-priority true true p e = refl
-open-priority true false p e = refl
-open-priority false c p e = absurd (true≢false (sym e))
-
-open-waits :
-    (pending delivered : Bool) (p : ℕ) →
-    isOpen (cond pending (cond (pending && delivered && true) (claimedRequest p) (openRequest p)) noRequest) ≡ true →
-    pending && not delivered ≡ true
-open-waits true true p e = e
-open-waits true false p e = refl
-open-waits false d p e = e
 
 -- a box that names a source is filled
 names-filled : (f : Bool) (id : ℕ) → 1 ≤ cond f id 0 → f ≡ true
 names-filled true id p = refl
 names-filled false id p = absurd (omega arith)
-
--- ---- boxes
 
 -- Its source has id i + 1.
 record Held (b : Ledger) (s : Controller) (k : ℕ) : Type 0 where
@@ -50,30 +31,26 @@ record Held (b : Ledger) (s : Controller) (k : ℕ) : Type 0 where
   above : (coreAt s k) .configured < (coreAt s k) .message .priority
 
 module _ (b : Ledger) (s : Controller) (w : WellFormed s) (match : Matches (s .n) (s .m) b s) where
-  pub unboxed-waits :
-      (i : ℕ) → i < s .n → isOpen (b .request (suc i)) ≡ true → boxed (s .cores) (s .m) (suc i) ≡ false →
-      (waiting (sourceAt s i) ≡ true) × (requestPriority b (suc i) ≡ (sourceAt s i) .priority)
-  unboxed-waits i p o e =
-      let r : isOpen (requestOf s i) ≡ true = rw (match .request i p) at o in (
-        open-waits ((sourceAt s i) .pending) ((sourceAt s i) .delivered) ((sourceAt s i) .priority) (rw e at r),
-        rw (match .request i p) (open-priority ((sourceAt s i) .pending) (claimed s i) ((sourceAt s i) .priority) r),
-      )
+  module _ (k : ℕ) (below : k < s .m) (f : (coreAt s k) .message .filled ≡ true) where
+    backed : Backed s (coreAt s k)
+    backed = w .backed k below f
 
-  held : (k : ℕ) → k < s .m → (coreAt s k) .message .filled ≡ true → Held b s k
-  held k below f = go ((coreAt s k) .message .source .0) refl (w .backed k below f)
-    where
-      go : (id : ℕ) → (coreAt s k) .message .source .0 ≡ id → Backed s (coreAt s k) → Held b s k
-      go zero e c = absurd (omega arith)
-      go (suc i) e c = record { i = i; named = e; below = p; inside = q; request = r; above = c .above }
-        where
-          p : i < s .n
-          p = omega arith
+    held-by : (i : ℕ) → i < s .n → (coreAt s k) .message .source .0 ≡ suc i → Held b s k
+    held-by i p e =
+        let inside : boxed (s .cores) (s .m) (suc i) ≡ true = boxed-in (s .cores) (s .m) (suc i) k below (holds-in (suc i) (coreAt s k) f e) in
+        record {
+          i = i;
+          named = e;
+          below = p;
+          inside = inside;
+          request = rw (match .request i p, rw e at (backed .pending), rw e at (backed .delivered), inside, rw e at (backed .same-priority));
+          above = backed .above;
+        }
 
-          q : boxed (s .cores) (s .m) (suc i) ≡ true
-          q = boxed-in (s .cores) (s .m) (suc i) k below (holds-in (suc i) (coreAt s k) f e)
-
-          r : b .request (suc i) ≡ openRequest ((coreAt s k) .message .priority)
-          r = rw (match .request i p, rw e at (c .pending), rw e at (c .delivered), q, rw e at (c .same-priority))
+    held : Held b s k
+    held =
+        by-index (λ x. (coreAt s k) .message .source .0 ≡ x → Held b s k) held-by ((coreAt s k) .message .source .0)
+        (backed .some-id, backed .id-le) refl
 
   pub current-given : (k : ℕ) → k < s .m → currentPriority (coreAt s k) ≡ given b (inBoxes s) k
   current-given k below = go (flag ((coreAt s k) .message .filled))

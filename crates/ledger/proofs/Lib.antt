@@ -2,9 +2,9 @@
 pub mod Counting
 pub mod Sorting
 pub mod Placements
+pub mod Requests
 pub mod Filled
 pub mod Strict
-pub mod Writes
 pub mod SourceMatching
 pub mod CoreMatching
 pub mod Matching

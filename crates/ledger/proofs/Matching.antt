@@ -1,29 +1,28 @@
 -- Every command keeps the match between ledger and state (`MatchKept`): a refused one changes neither, the effect of an accepted
--- one is what the ledger is written, and settling moves nothing that the ledger has.
--- Assumes nothing.
-use Prim.Native.Nat.{ℕ, zero, suc, pred, _*_, _<_, _≤_}
-use mathlib.Core.Path.{_≡_, refl, sym, subst, _∙_}
-use mathlib.Core.Bool.{true, false, not, _&&_}
+-- one is what the ledger is written, and settling moves nothing that the ledger has. Assumes nothing.
+use Prim.Native.Nat.{ℕ, suc, pred, _*_, _<_}
+use mathlib.Core.Path.{_≡_, refl, sym, _∙_}
+use mathlib.Core.Bool.{true, false}
 use native.Mathlib.Omega.{arith}
-use native.Mathlib.Decide.{ℕ-discrete}
 use borrow.Author.Tests.{ne-eqb}
 use Rattle.model.specs.declared.SourceId.{SourceId}
 use Rattle.model.specs.declared.CoreId.{CoreId}
+use Rattle.model.specs.declared.Core.{Core}
 use Rattle.model.specs.declared.Controller.{Controller}
 use Rattle.model.specs.declared.Answer.{Answer}
 use Rattle.model.specs.declared.Command.{Command}
 use Rattle.model.specs.declared.Command.the-variants.{SetSourcePriority, Mask, Unmask, SetCorePriority, Trigger, Claim, Redeliver, Complete}
-use Rattle.model.specs.Records.{sourceId, sourceAt, coreAt, withCore}
-use Rattle.model.specs.Requests.{claimed, boxed}
-use Rattle.model.specs.WellFormed.{WellFormed}
+use Rattle.model.specs.Records.{sourceId, coreAt, withCore}
+use Rattle.model.specs.Requests.{claimed}
+use Rattle.model.specs.WellFormed.{WellFormed, Backed}
 use Rattle.model.specs.Settling.{settle}
-use Rattle.model.specs.Commands.{claimedCore, effect, refusal, answeredId, settled, refused, execute}
+use Rattle.model.specs.Commands.{claimedCore, effect, refusal, answeredId, settled, refused}
 use Rattle.model.specs.Ledger.{Ledger, postAccepted, post}
-use Rattle.model.proofs.Bools.{and-l}
 use Rattle.settling.specs.Phases.{Kept}
 use Rattle.settling.proofs.Keeps.{settle-keeps}
-use Rattle.guarantees.proofs.Checked.{Named, Checked, checked}
-use Rattle.guarantees.proofs.Accepted.{accepted, execute-accepted, execute-refused}
+use Rattle.guarantees.proofs.Accepted.{by-answer}
+use Rattle.guarantees.proofs.Checked.{Named, Checked, by-index, accepted}
+use Rattle.guarantees.proofs.Owners.{claimed-out}
 use Rattle.guarantees.proofs.Kept.{execute-settles}
 use Rattle.ledger.specs.Matches.{Matches, requestOf, MatchKept}
 use Rattle.ledger.proofs.SourceMatching.{configured-matches, mask-matches, trigger-matches, redeliver-matches, complete-matches}
@@ -36,24 +35,16 @@ module _ (n m : ℕ) (b : Ledger) (s : Controller) (M : Matches n m b s) (W : We
 
   -- what follows for the source at each index below n follows for the source that a command names
   at-source : (P : ℕ → Type 0) → ((i : ℕ) → i < n → P (suc i)) → (id : SourceId) → Named s id → P (id .0)
-  at-source P each id h = go (id .0) (h .0) (h .1)
-    where
-      go : (x : ℕ) → 1 ≤ x → x ≤ s .n → P x
-      go zero low high = absurd (omega arith)
-      go (suc i) low high = each i (omega arith)
-
-  claimed-pending : (i : ℕ) → claimed s i ≡ true → (sourceAt s i) .pending ≡ true
-  claimed-pending i e =
-      and-l ((sourceAt s i) .pending) ((sourceAt s i) .delivered) (and-l ((sourceAt s i) .pending && (sourceAt s i) .delivered) (not (boxed (s .cores) (s .m) (suc i))) e)
+  at-source P each id h = by-index P (λ i q. each i (omega arith)) (id .0) h
 
   -- claim answers the id in the box, which is that of a source
   claim-follows : (k : CoreId) → k .0 < s .m → (coreAt s (k .0)) .message .filled ≡ true → Follows (Claim k)
   unfolding postAccepted answeredId effect
-  claim-follows k h filled = go ((coreAt s (k .0)) .message .source .0) refl (W .backed (k .0) h filled .some-id)
-    where
-      go : (id : ℕ) → (coreAt s (k .0)) .message .source .0 ≡ id → 1 ≤ id → Matches n m (postAccepted b (Claim k) id) (withCore s (k .0) (claimedCore (coreAt s (k .0))))
-      go zero e low = absurd (omega arith)
-      go (suc i) e low = claim-matches n m b s M W (k .0) (omega arith) i filled e
+  claim-follows k h filled =
+      let d : Core = coreAt s (k .0) in
+      let backed : Backed s d = W .backed (k .0) h filled in
+      at-source (λ x. d .message .source .0 ≡ x → Matches n m (postAccepted b (Claim k) x) (withCore s (k .0) (claimedCore d)))
+      (λ i q e. claim-matches n m b s M W (k .0) (omega arith) i q filled e) (d .message .source) (backed .some-id, backed .id-le) refl
 
   effect-matches : (c : Command) → Checked s c → Follows c
   unfolding postAccepted answeredId effect
@@ -67,7 +58,7 @@ module _ (n m : ℕ) (b : Ledger) (s : Controller) (M : Matches n m b s) (W : We
   effect-matches (Trigger id) h = at-source (λ x. Follows (Trigger (sourceId x))) (trigger-matches n m b s M W) id (h .0)
   effect-matches (Claim k) h = claim-follows k (h .0) (h .1)
   effect-matches (Redeliver id) h =
-      at-source (λ x. claimed s (pred x) ≡ true → Follows (Redeliver (sourceId x))) (λ i q e. redeliver-matches n m b s M W i q (claimed-pending i e)) id (h .0) (h .1)
+      at-source (λ x. claimed s (pred x) ≡ true → Follows (Redeliver (sourceId x))) (λ i q e. redeliver-matches n m b s M W i q (claimed-out s i e .0)) id (h .0) (h .1)
   effect-matches (Complete id) h = at-source (λ x. Follows (Complete (sourceId x))) (complete-matches n m b s M W) id (h .0)
 
 -- settling moves nothing that the ledger has
@@ -87,7 +78,7 @@ settle-matches n m b s s′ M K same =
 
 pub match-kept : MatchKept
 unfolding post settled refused
-match-kept n m b s c W M = go (ℕ-discrete (refusal s c) 0)
+match-kept n m b s c W M = by-answer s c Answered settles (λ h. rw (ne-eqb (refusal s c) 0 h) M)
   where
     -- what is to be shown of the answer
     Answered : Answer → Type 0
@@ -96,10 +87,6 @@ match-kept n m b s c W M = go (ℕ-discrete (refusal s c) 0)
     settles : refusal s c ≡ 0 → Answered (settled (effect s c) (answeredId s c))
     settles e =
         settle-matches n m (postAccepted b c (answeredId s c)) (effect s c) (settle (2 * (effect s c) .m) (effect s c))
-        (effect-matches n m b s M W c (checked s c (accepted s c e .1)))
+        (effect-matches n m b s M W c (accepted s c e .1))
         (settle-keeps (2 * (effect s c) .m) (effect s c))
         (execute-settles s c e .claimed-kept)
-
-    go : Dec (refusal s c ≡ 0) → Answered (execute s c)
-    go (yes e) = subst Answered (sym (execute-accepted s c e)) (settles e)
-    go (no h) = subst Answered (sym (execute-refused s c h)) (rw (ne-eqb (refusal s c) 0 h) M)

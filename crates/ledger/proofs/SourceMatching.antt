@@ -1,21 +1,19 @@
 -- The six commands that write one source keep the match between ledger and state, before settling. Assumes nothing.
 --   configured-matches, mask-matches, trigger-matches, redeliver-matches, complete-matches    for the source at index i, id i + 1
---   pending-priority    the ledger has the priority of a pending request, claimed or not
 use Prim.Native.Nat.{ℕ, suc, _<_}
 use mathlib.Core.Path.{_≡_, refl, sym, ap, _∙_}
 use mathlib.Core.Bool.{Bool, true, false, not, _&&_, cond}
 use native.Mathlib.Omega.{arith}
 use lib.ListN.{length}
-use lib.Dec.{eqb·suc-suc}
 use Rattle.model.specs.declared.Source.{Source}
 use Rattle.model.specs.declared.Controller.{Controller}
 use Rattle.model.specs.Records.{noSource, sourceAt, withSource, withConfigured, withMask, withDelivered, opened, ended}
-use Rattle.model.specs.Requests.{boxed, claimed}
+use Rattle.model.specs.Requests.{boxed}
 use Rattle.model.specs.WellFormed.{WellFormed}
 use Rattle.model.specs.Ledger.{Ledger, Request, noRequest, openRequest, claimedRequest, priorityOf, write, writeConfigured, writeMask, writeRequest}
-use Rattle.model.proofs.Bools.{clash}
+use Rattle.guarantees.proofs.Writes.{read-kept, read-written}
 use Rattle.ledger.specs.Matches.{Matches}
-use Rattle.ledger.proofs.Writes.{read-kept, read-written}
+use Rattle.ledger.proofs.Requests.{pending-priority}
 
 -- What the ledger pictures of the source at j.
 abbrev configuredOf : ℕ → Source → ℕ
@@ -35,14 +33,6 @@ requestIn s j r =
 abbrev Pictures : ℕ → Controller → {A : Type 0} → (ℕ → Source → A) → (ℕ → A) → Type 0
 Pictures n s read f = (j : ℕ) → j < n → f (suc j) ≡ read j (sourceAt s j)
 
-pub pending-priority : (n m : ℕ) (b : Ledger) (s : Controller) → Matches n m b s → (i : ℕ) → i < n → (sourceAt s i) .pending ≡ true → priorityOf (b .request (suc i)) ≡ (sourceAt s i) .priority
-pending-priority n m b s M i h e = ap priorityOf (M .request i h) ∙ go ((sourceAt s i) .pending) (claimed s i) e
-  where
-    go : (p c : Bool) → p ≡ true → priorityOf (cond p (cond c (claimedRequest ((sourceAt s i) .priority)) (openRequest ((sourceAt s i) .priority))) noRequest) ≡ (sourceAt s i) .priority
-    go true true on = refl
-    go true false on = refl
-    go false c on = clash on refl
-
 module _ (n m : ℕ) (b : Ledger) (s : Controller) (M : Matches n m b s) (W : WellFormed s) (i : ℕ) (named : i < n) where
   inside : i < length (s .sources)
   inside = omega arith
@@ -53,7 +43,7 @@ module _ (n m : ℕ) (b : Ledger) (s : Controller) (M : Matches n m b s) (W : We
 
     written : {A : Type 0} (read : ℕ → Source → A) (f : ℕ → A) {v : A} → v ≡ read i r → Pictures n s read f → Pictures n (withSource s i r) read (write f (suc i) v)
     written read f {v} value before j h =
-        read-written read (s .sources) i j r noSource inside f (suc i) (suc j) v (eqb·suc-suc j i) value (before j h)
+        read-written read (s .sources) i j r noSource inside (suc j) (suc i) (λ e. omega arith, λ e. ap suc e) (λ e. rw e value) (before j h)
 
     source-written : {f : ℕ → ℕ} {g : ℕ → Bool} {h : ℕ → Request} → Pictures n (withSource s i r) configuredOf f → Pictures n (withSource s i r) maskedOf g → Pictures n (withSource s i r) (requestIn s) h → Matches n m (record { core = b .core; configured = f; masked = g; request = h }) (withSource s i r)
     source-written p q t =

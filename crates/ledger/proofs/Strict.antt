@@ -9,19 +9,20 @@ use native.Mathlib.Omega.{arith}
 use lib.Dec.{ltb}
 use borrow.Author.Tests.{ltb-true, ltb-false}
 use Rattle.model.specs.declared.Controller.{Controller}
-use Rattle.model.specs.Records.{coreAt}
-use Rattle.model.specs.Requests.{currentPriority, holds, boxed}
+use Rattle.model.specs.Records.{sourceAt, coreAt}
+use Rattle.model.specs.Requests.{currentPriority, waiting, holds, boxed}
 use Rattle.model.specs.Walks.{some}
 use Rattle.model.specs.WellFormed.{WellFormed}
 use Rattle.model.specs.Ledger.{Ledger, row, competes, requestPriority, collection, given, inBoxes, currentPriorities}
 use Rattle.model.specs.Statements.{PriorityStrict}
-use Rattle.model.proofs.Bools.{and-in, or-off, Flag, on, off, flag}
+use Rattle.model.proofs.Bools.{and-in, and-l, or-off, Flag, on, off, flag}
 use Rattle.model.proofs.Walks.{Witness, some-out, some-false-out}
 use Rattle.model.proofs.Boxes.{holds-filled, holds-source, boxed-out}
 use Rattle.ledger.specs.Matches.{Matches, MatchedStrict}
 use Rattle.ledger.proofs.Counting.{total-le, total-add, Sent, nowhere, to, total-sent, reach, reach-gather, reach-under, row-length, row-cong, row-reach-le, row-reach-all}
 use Rattle.ledger.proofs.Placements.{offered, collection-reach, collection-length, Competing, competes-out, placement-reach}
-use Rattle.ledger.proofs.Filled.{unboxed-waits, current-given, box-priority, boxes-placed}
+use Rattle.ledger.proofs.Requests.{pending-priority, unboxed-waits}
+use Rattle.ledger.proofs.Filled.{current-given, box-priority, boxes-placed}
 use Rattle.ledger.proofs.Sorting.{sorted-le, top-of}
 
 module _ (b : Ledger) (s : Controller) where
@@ -55,8 +56,9 @@ module _ (b : Ledger) (s : Controller) where
         requestPriority b (suc i) ≤ current k
     unboxed-settled i k p q c e =
         let unmasked : not (b .masked (suc i)) ≡ true = or-off (boxed (s .cores) (s .m) (suc i)) (not (b .masked (suc i))) (c .placed) e in
-        let (waits, same) = unboxed-waits b s w match i p (c .is-open) e in
-        rw same (w .candidates-settled i k p q (and-in waits (rw (match .masked i p) at unmasked)))
+        let waits : waiting (sourceAt s i) ≡ true = unboxed-waits (s .n) (s .m) b s match i p (c .is-open) e in
+        rw (pending-priority (s .n) (s .m) b s match i p (and-l _ _ waits))
+        (w .candidates-settled i k p q (and-in waits (rw (match .masked i p) at unmasked)))
 
     module _ (t : ℕ) where
       currents-le : reach t currents ≤ reach t everything

@@ -32,7 +32,7 @@ opening-matches n m R =
     }
 
 -- from a sound state that the ledger matches
-pub run-matches : (n m : ℕ) (b : Ledger) (s : Controller) (cs : List Command) → WellFormed s → Matches n m b s → WellFormed (run s cs) × Matches n m (ledger b (entries s cs)) (run s cs)
+run-matches : (n m : ℕ) (b : Ledger) (s : Controller) (cs : List Command) → WellFormed s → Matches n m b s → WellFormed (run s cs) × Matches n m (ledger b (entries s cs)) (run s cs)
 unfolding ledger entries run
 run-matches n m b s [] W M = (W, M)
 run-matches n m b s (c ∷ cs) W M =

@@ -6,7 +6,7 @@ use Rattle.model.specs.declared.Controller.{Controller}
 use Rattle.model.specs.declared.Command.{Command}
 use Rattle.model.specs.Records.{sourceAt, coreAt}
 use Rattle.model.specs.Requests.{claimed}
-use Rattle.model.specs.Commands.{refusal, execute}
+use Rattle.model.specs.Commands.{execute}
 use Rattle.model.specs.WellFormed.{WellFormed}
 use Rattle.model.specs.Ledger.{Ledger, Request, noRequest, openRequest, claimedRequest, post, entryOf}
 use Rattle.model.specs.Statements.{PriorityStrict}

@@ -1,6 +1,6 @@
 -- When a source is a candidate, read off its flags one at a time. Assumes nothing.
-use Prim.Native.Nat.{suc, _+_}
-use mathlib.Core.Path.{_≡_, refl}
+use Prim.Native.Nat.{_+_}
+use mathlib.Core.Path.{_≡_}
 use mathlib.Core.Bool.{true, false, and-false, and-true}
 use native.Mathlib.Numerals.{add-one}
 use Rattle.model.specs.declared.Source.{Source}

@@ -7,7 +7,7 @@
 use Prim.Native.Nat.{suc, _<_}
 use mathlib.Core.Path.{_≡_}
 use mathlib.Core.List.{List}
-use mathlib.Core.Bool.{Bool, true, not, _&&_, cond}
+use mathlib.Core.Bool.{Bool, not, _&&_, cond}
 use lib.ListN.{length, getD}
 use lib.Dec.{ltb, leb}
 use Rattle.model.specs.declared.CoreId.{CoreId}

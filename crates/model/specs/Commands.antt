@@ -5,7 +5,7 @@
 --   execute s c     the whole command, on any state: a refused one hands back the state it was given, id 0 and 0 cycles
 --   make n m        a fresh controller, or refusal 2 with the fresh one of sizes (1, 1)
 --   run s cs        the state after a list of commands, refused ones included
-use Prim.Native.Nat.{ℕ, _+_, _*_}
+use Prim.Native.Nat.{ℕ, _*_}
 use mathlib.Core.List.{List, [], _∷_, map}
 use mathlib.Core.Bool.{Bool, true, false, not, cond}
 use lib.ListN.{set}

@@ -3,7 +3,7 @@
 use Prim.Native.Nat.{ℕ, suc, _+_, _*_, _^_, _<_, _≤_}
 use mathlib.Core.Path.{_≡_}
 use mathlib.Core.Logic.{_↔_, _≢_}
-use mathlib.Core.List.{List, [], _∷_}
+use mathlib.Core.List.{List}
 use mathlib.Core.Bool.{Bool, true, false, not, _||_, cond}
 use lib.ListN.{getD, take}
 use lib.Dec.{ltb, leb, eqb}
@@ -18,9 +18,9 @@ use Rattle.model.specs.Priorities.{floorLog2, topPriority}
 use Rattle.model.specs.Walks.{comparisons}
 use Rattle.model.specs.Requests.{currentPriority, candidate, claimed, Owner, Owns}
 use Rattle.model.specs.Arbitration.{higher, highest, highestByWalk, highestId, lower, least}
-use Rattle.model.specs.WellFormed.{between, wellFormed, WellFormed}
+use Rattle.model.specs.WellFormed.{wellFormed, WellFormed}
 use Rattle.model.specs.Settling.{next, isRetraction, isDelivery, countOf}
-use Rattle.model.specs.Commands.{effect, namesSource, namesCore, refusal, execute, make, run}
+use Rattle.model.specs.Commands.{effect, refusal, execute, make, run}
 use Rattle.model.specs.Ledger.{Ledger, opening, ledger, entries, collection, Placement, given, inBoxes, requestPriority, currentPriorities, row, sortDown}
 
 -- ---- sizes and priorities

@@ -3,7 +3,7 @@
 --   wellFormed s     the computed test: it answers on any record, whatever sizes, ids and priorities it holds
 --   WellFormed s     what the test means; the two are proved equivalent
 -- The lists' lengths are those of the arrays in every value that a program can hold.
-use Prim.Native.Nat.{ℕ, suc, _-_, _<_, _≤_}
+use Prim.Native.Nat.{ℕ, _-_, _<_, _≤_}
 use mathlib.Core.Path.{_≡_}
 use mathlib.Core.List.{List}
 use mathlib.Core.Bool.{Bool, true, false, not, _&&_, _||_}
@@ -13,7 +13,7 @@ use Rattle.model.specs.declared.Source.{Source}
 use Rattle.model.specs.declared.Core.{Core}
 use Rattle.model.specs.declared.MessageBox.{MessageBox}
 use Rattle.model.specs.declared.Controller.{Controller}
-use Rattle.model.specs.Records.{maxSources, maxCores, noSource, noCore, resetSource, resetCore, emptyBox, indexOf, sourceAt, coreAt}
+use Rattle.model.specs.Records.{maxSources, maxCores, noSource, resetSource, resetCore, emptyBox, indexOf, sourceAt, coreAt}
 use Rattle.model.specs.Priorities.{topPriority}
 use Rattle.model.specs.Walks.{every}
 use Rattle.model.specs.Requests.{currentPriority, candidate}

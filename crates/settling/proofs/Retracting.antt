@@ -4,7 +4,7 @@
 --   retracting-none               before the first turn
 --   retracting-dirty, -clean      a turn that meets a dirty box, and one that does not
 --   retracting-all                after the last turn
-use Prim.Native.Nat.{ℕ, suc, pred, _+_, _-_, _<_, _≤_}
+use Prim.Native.Nat.{ℕ, _+_, _-_, _<_, _≤_}
 use mathlib.Core.Path.{_≡_, refl, sym, ap, _∙_}
 use mathlib.Core.Bool.{true, false}
 use native.Mathlib.Omega.{arith}
@@ -15,7 +15,6 @@ use Rattle.model.specs.declared.Controller.{Controller}
 use Rattle.model.specs.declared.Cycle.the-variants.{Retract}
 use Rattle.model.specs.Records.{coreId, emptyBox, coreWith, withDelivered, withSource, withCore, sourceAt, coreAt}
 use Rattle.model.specs.Settling.{next, retract, settle, countOf, cyclesOf}
-use Rattle.settling.specs.declared.Retracted.{Retracted}
 use Rattle.settling.specs.Phases.{Holding, Consistent, AllDirty}
 use Rattle.settling.specs.Runs.{AfterRetractions}
 use Rattle.settling.proofs.Writes.{core-retract-same, core-retract-other, retract-sizes}

@@ -12,11 +12,7 @@ outcome-requires c κs = search needs
 
 returns : tie.Need-returns
 returns c =
-    taken-empty
-    (c .before .before .before .before .before .args .c)
-    (c .outcome .result)
-    (c .before .if1 .taken)
-    (c .outcome .ensures)
+    taken-empty (c .before .before .before .before .before .args .c) (c .before .if1 .taken) (c .outcome .ensures)
 
 claimable-requires : tie.Need-claimable-requires
 claimable-requires c κs = search needs
@@ -29,8 +25,6 @@ returns-2 c =
     taken-bad
     (c .before .before .before .before .before .before .before .args .c)
     (c .before .before .before .if1 .left)
-    (c .outcome2 .result)
-    (c .before .before .claimable .result)
     (c .before .before .claimable .ensures)
     (c .before .if2 .taken)
     (c .outcome2 .ensures)
@@ -43,9 +37,6 @@ returns-3 c =
     taken-good
     (c .before .before .before .before .before .before .before .args .c)
     (c .before .before .before .if1 .left)
-    (c .outcome3 .result)
-    (c .before .before .claimable .result)
-    (c .before .before .before .before .before .claimed-core .result)
     (c .before .before .claimable .ensures)
     (c .before .if2 .left)
     (c .before .before .before .before .before .claimed-core .ensures)

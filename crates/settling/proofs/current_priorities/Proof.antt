@@ -1,6 +1,6 @@
 -- `settling::current_priorities` meets its contract. The loop's invariant: each number below `k` is its core's current priority.
 -- Assumes nothing.
-use Prim.Native.Nat.{ℕ, _-_}
+use Prim.Native.Nat.{_-_}
 use lib.ListN.{getD}
 use Rattle.model.specs.Records.{noCore, maxCores}
 use Rattle.model.specs.Requests.{currentPriority}

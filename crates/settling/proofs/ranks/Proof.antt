@@ -1,5 +1,5 @@
 -- `settling::ranks` meets its contract. The loop's invariant: each key below `i` is its source's rank. Assumes nothing.
-use Prim.Native.Nat.{ℕ, _-_}
+use Prim.Native.Nat.{_-_}
 use lib.ListN.{getD}
 use Rattle.model.specs.Records.{noSource, maxSources}
 use Rattle.model.specs.Arbitration.{rank}
