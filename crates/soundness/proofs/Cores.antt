@@ -1,8 +1,10 @@
 -- One core in the sound-state test: what the test asks of it, and the same from the loop's tests. Assumes nothing.
---   CoreSound s k               what is asked of core k, beside the cores before it
---   core-sound                  it holds of each core of a well-formed state
---   filled-sound, empty-sound   from the tests that a core passed, with a filled box and with an empty one
---   backed-out                  the last test of a filled box succeeds
+--   CoreNames, core-fits-exact         what `core_in_range` tests
+--   CleanBacked, clean-backed-exact    what `is_backed` tests
+--   CoreSound s k                      what is asked of core k, beside the cores before it
+--   core-sound                         it holds of each core of a well-formed state
+--   filled-sound, empty-sound          from the tests that a core passed, with a filled box and with an empty one
+--   names-out, backed-out              the tests of a sound core succeed
 use Prim.Native.Nat.{ℕ, pred, _-_, _<_, _≤_}
 use mathlib.Core.Path.{_≡_, sym, _∙_, ap}
 use mathlib.Core.Bool.{Bool, true, false}
@@ -12,15 +14,24 @@ use Rattle.model.specs.declared.Source.{Source}
 use Rattle.model.specs.declared.MessageBox.{MessageBox}
 use Rattle.model.specs.declared.Core.{Core}
 use Rattle.model.specs.declared.Controller.{Controller}
-use Rattle.model.specs.Records.{noSource, emptyBox, sourceAt, coreAt}
+use Rattle.model.specs.Records.{noSource, sourceAt, coreAt}
 use Rattle.model.specs.Priorities.{topPriority}
 use Rattle.model.specs.Requests.{boxed}
-use Rattle.model.specs.WellFormed.{isEmptyBox, Backed, WellFormed}
+use Rattle.model.specs.WellFormed.{Backed, WellFormed}
 use Rattle.model.proofs.Bools.{clash}
 use Rattle.model.proofs.Boxes.{holds-in, unboxed-out}
-use Rattle.soundness.specs.Loops.{cleanBacked}
-use Rattle.soundness.proofs.Exact.{Exact, _and_, flag-exact, not-exact, eqb-exact, ltb-exact}
-use Rattle.soundness.proofs.Clauses.{CoreFits, empty-box-exact, SameSource}
+use Rattle.soundness.specs.Loops.{coreFits, cleanBacked}
+use Rattle.soundness.proofs.Exact.{Exact, _and_, flag-exact, not-exact, eqb-exact, ltb-exact, between-exact, implies-exact}
+use Rattle.soundness.proofs.Clauses.{CoreFits, core-exact, SameSource}
+
+-- the core is in range, and a filled box names one of n sources
+abbrev pub CoreNames : ℕ → ℕ → Core → Type 0
+CoreNames n top c = CoreFits top c × (c .message .filled ≡ true → (1 ≤ c .message .source .0) × (c .message .source .0 ≤ n))
+
+pub core-fits-exact : (n top : ℕ) (c : Core) → Exact (coreFits n top c) (CoreNames n top c)
+unfolding coreFits
+core-fits-exact n top c =
+    core-exact top c and implies-exact (c .message .filled) (between-exact 1 n (c .message .source .0))
 
 pub record CoreSound (s : Controller) (k : ℕ) : Type 0 where
   pub fits : CoreFits (topPriority (s .n)) (coreAt s k)
@@ -37,10 +48,11 @@ core-sound s w k h =
       apart = λ j g q. omega (arith, w .distinct j k (omega arith) h (q .left) (q .right) (q .source));
     }
 
-clean-backed-exact : (c : Core) (r : Source) →
-    Exact (cleanBacked c r)
-    (((((c .message .dirty ≡ false) × (r .pending ≡ true)) × (r .delivered ≡ true)) × (r .priority ≡ c .message .priority)) ×
-    (c .configured < c .message .priority))
+abbrev pub CleanBacked : Core → Source → Type 0
+CleanBacked c r =
+    ((((c .message .dirty ≡ false) × (r .pending ≡ true)) × (r .delivered ≡ true)) × (r .priority ≡ c .message .priority)) × (c .configured < c .message .priority)
+
+pub clean-backed-exact : (c : Core) (r : Source) → Exact (cleanBacked c r) (CleanBacked c r)
 unfolding cleanBacked
 clean-backed-exact c r =
     not-exact (c .message .dirty) and
@@ -68,30 +80,34 @@ module _ (s : Controller) (k : ℕ) where
       same-source ∙
       clean-backed-exact (coreAt s k) (sourceAt s (pred idAt)) .1 ((((o .clean, b .pending), b .delivered), b .same-priority), b .above)
 
-  pub filled-sound : (coreAt s k) .configured ≤ topPriority (s .n) → (coreAt s k) .message .filled ≡ true → (idAt ≡ 0 → ⊥) → idAt ≤ s .n → boxed (s .cores) k idAt ≡ false → backedAt ≡ true → CoreSound s k
-  filled-sound p e some-id id-le u b =
-      let ((((clean, pending), delivered), priority), above) = clean-backed-exact (coreAt s k) (sourceAt s (pred idAt)) .0 (sym same-source ∙ b) in
-      record {
-        fits = record { configured = p; empty = λ f. clash e f };
-        backed = λ f.
-            record {
-              some-id = omega arith;
-              id-le = id-le;
-              pending = pending;
-              delivered = delivered;
-              same-priority = priority;
-              above = above;
-            };
-        clean = clean;
-        apart = λ j h f. clash (holds-in idAt (coreAt s j) (f .left) (f .source)) (unboxed-out (s .cores) k idAt u j h);
-      }
+  pub names-out : CoreSound s k → CoreNames (s .n) (topPriority (s .n)) (coreAt s k)
+  names-out o = (o .fits, λ e. ((o .backed e) .some-id, (o .backed e) .id-le))
 
-  pub empty-sound : (coreAt s k) .configured ≤ topPriority (s .n) → (coreAt s k) .message .filled ≡ false → isEmptyBox ((coreAt s k) .message) ≡ true → CoreSound s k
-  empty-sound p e b =
-      let q : (coreAt s k) .message ≡ emptyBox = empty-box-exact ((coreAt s k) .message) .0 b in
-      record {
-        fits = record { configured = p; empty = λ f. q };
-        backed = λ f. clash f e;
-        clean = ap (λ (d : MessageBox). d .dirty) q;
-        apart = λ j h f. clash (f .right) e;
-      }
+  module _ (f : CoreNames (s .n) (topPriority (s .n)) (coreAt s k)) where
+    pub filled-sound : (coreAt s k) .message .filled ≡ true → boxed (s .cores) k idAt ≡ false → backedAt ≡ true → CoreSound s k
+    filled-sound e u b =
+        let (some-id, id-le) = f .1 e in
+        let ((((clean, pending), delivered), priority), above) = clean-backed-exact (coreAt s k) (sourceAt s (pred idAt)) .0 (sym same-source ∙ b) in
+        record {
+          fits = f .0;
+          backed = λ g.
+              record {
+                some-id = some-id;
+                id-le = id-le;
+                pending = pending;
+                delivered = delivered;
+                same-priority = priority;
+                above = above;
+              };
+          clean = clean;
+          apart = λ j h g. clash (holds-in idAt (coreAt s j) (g .left) (g .source)) (unboxed-out (s .cores) k idAt u j h);
+        }
+
+    pub empty-sound : (coreAt s k) .message .filled ≡ false → CoreSound s k
+    empty-sound e =
+        record {
+          fits = f .0;
+          backed = λ g. clash g e;
+          clean = ap (λ (d : MessageBox). d .dirty) (f .0 .empty e);
+          apart = λ j h g. clash (g .right) e;
+        }

@@ -5,7 +5,8 @@
 --   every-exact               a test at each number below a bound
 --   passes, refused           the test's value from the fact, and from its refutation
 --   agree                     two tests of equivalent facts have the same value
---   accepted, rejected        what an answer r of the test says, where the code branches on `!r`
+--   given                     an answer r of the test says the same
+--   accepted, rejected        what it says where the code branches on `!r`
 use Prim.Native.Nat.{ℕ, _<_, _≤_}
 use mathlib.Core.Path.{_≡_, refl, sym, _∙_}
 use mathlib.Core.Logic.{_↔_}
@@ -77,11 +78,15 @@ passes y p = sym (y .1 p)
 pub refused : {b : Bool} {B : Type 0} → Exact b B → ¬ B → false ≡ b
 refused {b} y r = sym (not-out b (refuted-exact y .1 r))
 
+-- an answer r of the test
+pub given : {r b : Bool} {B : Type 0} → Exact b B → r ≡ b → Exact r B
+given y e = (λ q. y .0 (sym e ∙ q), λ p. e ∙ y .1 p)
+
 pub accepted : {r b : Bool} {B : Type 0} → Exact b B → r ≡ b → not r ≡ false → B
-accepted {r} y e q = y .0 (sym e ∙ not-not r q)
+accepted {r} y e q = given y e .0 (not-not r q)
 
 pub rejected : {r b : Bool} {B : Type 0} → Exact b B → r ≡ b → not r ≡ true → ¬ B
-rejected {r} y e q p = clash (y .1 p) (sym e ∙ not-out r q)
+rejected {r} y e q p = clash (given y e .1 p) (not-out r q)
 
 pub agree : {a b : Bool} {A B : Type 0} → Exact a A → Exact b B → (A → B) → (B → A) → a ≡ b
 agree {a} {b} x y to back = go (flag a)

@@ -3,7 +3,7 @@
 --   Clauses   the tests of single records
 --   Test      the sound-state test is exact
 --   Reset     a reset controller is well formed; making answers exactly that
---   Turns     a loop that tests each record
+--   Turns     a loop that keeps in a flag whether all records have passed
 --   Fits      the loop over the sources
 --   Cores     one core in the test
 --   Marks     what the loop over the cores keeps

@@ -22,10 +22,9 @@ use Rattle.model.specs.Records.{maxSources, noCore, coreAt}
 use Rattle.model.specs.Priorities.{topPriority}
 use Rattle.model.specs.Walks.{some}
 use Rattle.model.specs.Requests.{currentPriority, holds, boxed}
-use Rattle.model.specs.WellFormed.{isEmptyBox}
 use Rattle.model.proofs.Bools.{or-in-r, clash}
 use Rattle.model.proofs.Boxes.{holds-in, holds-filled, holds-source, boxed-out}
-use Rattle.soundness.proofs.Cores.{CoreSound, idAt, backedAt, filled-sound, empty-sound}
+use Rattle.soundness.proofs.Cores.{CoreNames, CoreSound, idAt, backedAt, filled-sound, empty-sound}
 
 -- ---- one box more
 
@@ -65,7 +64,7 @@ boxes-begin s =
       least = λ q h. omega arith;
     }
 
-module _ {s : Controller} {seen : List Bool} {covered k : ℕ} (b : Boxes s seen covered k) (some-id : idAt s k ≡ 0 → ⊥) (id-le : idAt s k ≤ maxSources) where
+module _ {s : Controller} {seen : List Bool} {covered k : ℕ} (b : Boxes s seen covered k) (some-id : 1 ≤ idAt s k) (id-le : idAt s k ≤ maxSources) where
   mark-is : getD seen (idAt s k - 1) false ≡ boxed (s .cores) k (idAt s k)
   mark-is =
       let e : suc (idAt s k - 1) ≡ idAt s k = omega arith in
@@ -96,7 +95,7 @@ module _ {s : Controller} {seen : List Bool} {covered k : ℕ} (b : Boxes s seen
         least = λ q h. b .least q (λ j g. h j (omega arith));
       }
 
-  module _ (e : (coreAt s k) .message .filled ≡ true) (some-id : idAt s k ≡ 0 → ⊥) (id-le : idAt s k ≤ maxSources) where
+  module _ (e : (coreAt s k) .message .filled ≡ true) (some-id : 1 ≤ idAt s k) (id-le : idAt s k ≤ maxSources) where
     marked-more : (i : ℕ) → i < maxSources → getD (set seen (idAt s k - 1) true) i false ≡ boxed (s .cores) (k + 1) (suc i)
     marked-more i h = go (ℕ-discrete i (idAt s k - 1))
       where
@@ -121,15 +120,16 @@ module _ {s : Controller} {seen : List Bool} {covered k : ℕ} (b : Boxes s seen
 
 -- ---- one turn, from its tests
 
-module _ {s : Controller} {seen : List Bool} {covered k : ℕ} (b : Boxes s seen covered k) (p : (coreAt s k) .configured ≤ topPriority (s .n)) {seen′ : List Bool} {covered′ : ℕ} where
-  pub empty-turn : (coreAt s k) .message .filled ≡ false → isEmptyBox ((coreAt s k) .message) ≡ true → seen′ ≡ seen → covered′ ≡ covered → Boxes s seen′ covered′ (k + 1)
-  empty-turn e f x y = rw (x, y) (boxes-empty b (empty-sound s k p e f) e)
+module _ {s : Controller} {seen : List Bool} {covered k : ℕ} (b : Boxes s seen covered k) (f : CoreNames (s .n) (topPriority (s .n)) (coreAt s k)) {seen′ : List Bool} {covered′ : ℕ} where
+  pub empty-turn : (coreAt s k) .message .filled ≡ false → seen′ ≡ seen → covered′ ≡ covered → Boxes s seen′ covered′ (k + 1)
+  empty-turn e x y = rw (x, y) (boxes-empty b (empty-sound s k f e) e)
 
-  pub filled-turn : s .n ≤ maxSources → (coreAt s k) .message .filled ≡ true → (idAt s k ≡ 0 → ⊥) → idAt s k ≤ s .n → getD seen (idAt s k - 1) false ≡ false → backedAt s k ≡ true → seen′ ≡ set seen (idAt s k - 1) true → covered ≤ covered′ → (coreAt s k) .configured ≤ covered′ → ((q : ℕ) → covered ≤ q → (coreAt s k) .configured ≤ q → covered′ ≤ q) → Boxes s seen′ covered′ (k + 1)
-  filled-turn h e some-id id-le u f x low high least =
-      let g : idAt s k ≤ maxSources = omega arith in
-      let o = filled-sound s k p e some-id id-le (unmarked b some-id g u) f in
-      rw x (boxes-filled b o e some-id g covered′ low high least)
+  pub filled-turn : s .n ≤ maxSources → (coreAt s k) .message .filled ≡ true → getD seen (idAt s k - 1) false ≡ false → backedAt s k ≡ true → seen′ ≡ set seen (idAt s k - 1) true → covered ≤ covered′ → (coreAt s k) .configured ≤ covered′ → ((q : ℕ) → covered ≤ q → (coreAt s k) .configured ≤ q → covered′ ≤ q) → Boxes s seen′ covered′ (k + 1)
+  filled-turn h e u g x low high least =
+      let (some-id, id-le) = f .1 e in
+      let small : idAt s k ≤ maxSources = omega arith in
+      let o = filled-sound s k f e (unmarked b some-id small u) g in
+      rw x (boxes-filled b o e some-id small covered′ low high least)
 
 -- ---- the least current priority
 

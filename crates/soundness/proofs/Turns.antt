@@ -1,43 +1,32 @@
--- A loop that tests each record, as `every` of what has been tested: where it begins, one turn, a failed test, the end.
--- Assumes nothing.
---   every-more, every-off, every-all    one more number has passed; one has failed; all have passed
---   from-begin, from-more, from-off     the same of the numbers from a first one on, by a test's answer r
-use Prim.Native.Nat.{ℕ, _+_, _<_, _≤_}
-use mathlib.Core.Path.{_≡_, sym, _∙_}
-use mathlib.Core.Bool.{Bool, true, false, not, _||_}
+-- A loop that tests each record from a first one on, and keeps in a flag whether all have passed. Assumes nothing.
+--   since f from              no number below `from` is tested
+--   since-begin, since-end    the flag where the loop begins, and where all numbers below a bound have been tested
+--   since-turn                the flag after one turn, by the test's answer r: failed, passed
+use Prim.Native.Nat.{ℕ, _+_, _≤_}
+use mathlib.Core.Path.{_≡_, sym, _∙_, ap}
+use mathlib.Core.Bool.{Bool, true, false, not, _||_, _&&_, and-true, and-false}
 use native.Mathlib.Omega.{arith}
 use native.Mathlib.Numerals.{add-one}
 use lib.Dec.{ltb}
 use borrow.Author.Tests.{lt-ltb, le-ltb}
 use Rattle.model.specs.Walks.{every}
-use Rattle.model.proofs.Bools.{and-in, or-in-l, or-in-r, not-out, not-not, clash, Flag, on, off, flag}
-use Rattle.model.proofs.Walks.{every-in, every-out}
+use Rattle.model.proofs.Bools.{or-in-l, not-out, not-not}
+use Rattle.model.proofs.Walks.{every-in}
 
-module _ (f : ℕ → Bool) where
-  pub every-more : (k : ℕ) → every k f ≡ true → f k ≡ true → every (k + 1) f ≡ true
-  unfolding every
-  every-more k p q = rw add-one (and-in p q)
+abbrev pub since : (ℕ → Bool) → ℕ → ℕ → Bool
+since f from i = ltb i from || f i
 
-  pub every-off : (n k : ℕ) → k < n → f k ≡ false → false ≡ every n f
-  every-off n k h q = go (flag (every n f))
-    where
-      go : Flag (every n f) → false ≡ every n f
-      go (on p) = clash (every-out n f p k h) q
-      go (off p) = sym p
+module _ (f : ℕ → Bool) (from k : ℕ) where
+  pub since-begin : k ≤ from → true ≡ every k (since f from)
+  since-begin h = sym (every-in k (since f from) (λ i g. or-in-l (f i) (lt-ltb i from (omega arith))))
 
-  pub every-all : (n k : ℕ) → every k f ≡ true → n ≤ k → true ≡ every n f
-  every-all n k p h = sym (every-in n f (λ i g. every-out k f p i (omega arith)))
+  module _ {fresh : Bool} (p : fresh ≡ every k (since f from)) where
+    pub since-end : (n : ℕ) → k ≡ n → fresh ≡ every n (since f from)
+    since-end n e = p ∙ ap (λ (i : ℕ). every i (since f from)) e
 
-module _ (f : ℕ → Bool) (from : ℕ) where
-  abbrev since : ℕ → Bool
-  since i = ltb i from || f i
-
-  pub from-begin : every from since ≡ true
-  from-begin = every-in from since (λ i h. or-in-l (f i) (lt-ltb i from h))
-
-  module _ (k : ℕ) (r : Bool) (e : r ≡ f k) where
-    pub from-more : every k since ≡ true → not r ≡ false → every (k + 1) since ≡ true
-    from-more p q = every-more since k p (or-in-r (ltb k from) (sym e ∙ not-not r q))
-
-    pub from-off : (n : ℕ) → k < n → from ≤ k → not r ≡ true → false ≡ every n since
-    from-off n h g q = every-off since n k h (rw (le-ltb k from g) (sym e ∙ not-out r q))
+    pub since-turn : from ≤ k → {r : Bool} → r ≡ f k → (not r ≡ true → false ≡ every (k + 1) (since f from)) × (not r ≡ false → fresh ≡ every (k + 1) (since f from))
+    unfolding every
+    since-turn h {r} e = (λ q. rw (not-out r q, and-false) at turn, λ q. rw (not-not r q, and-true) at turn)
+      where
+        turn : fresh && r ≡ every (k + 1) (since f from)
+        turn = rw (add-one, le-ltb k from h, p, e)

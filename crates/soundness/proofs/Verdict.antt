@@ -1,7 +1,7 @@
 -- The loops' answers together: what they say of a well-formed state, and that they make the state well formed. Assumes nothing.
 --   top-small        the top priority fits 16 binary digits
 --   covered-le       in a well-formed state no covered priority is above the least current one
---   sources-fit      in a well-formed state every source fits
+--   sources-fit      in a well-formed state every source fits, and the spare ones are reset
 --   well-formed      a state that passed every test is well formed
 use Prim.Native.Nat.{ℕ, suc, _+_, _*_, _^_, _<_, _≤_}
 use mathlib.Core.Path.{_≡_, sym, _∙_, ap}
@@ -13,18 +13,19 @@ use lib.ListN.{length, getD, length-map}
 use Rattle.model.specs.declared.Source.{Source}
 use Rattle.model.specs.declared.Core.{Core}
 use Rattle.model.specs.declared.Controller.{Controller}
-use Rattle.model.specs.Records.{maxSources, maxCores, noSource, noCore, resetSource, resetCore, sourceAt, coreAt}
+use Rattle.model.specs.Records.{maxSources, maxCores, noCore, resetCore, sourceAt, coreAt}
 use Rattle.model.specs.Priorities.{floorLog2, priorityWidth, topPriority}
+use Rattle.model.specs.Walks.{every}
 use Rattle.model.specs.Requests.{candidate, waiting}
 use Rattle.model.specs.WellFormed.{WellFormed}
 use Rattle.model.specs.Statements.{InRange}
 use Rattle.model.proofs.Bools.{and-l}
 use Rattle.model.proofs.Priorities.{floor-log2-exact}
-use Rattle.soundness.specs.Loops.{spareSourcesReset, spareCoresReset}
+use Rattle.soundness.specs.Loops.{spareCore}
 use Rattle.soundness.proofs.Exact.{Exact, from-exact, every-exact}
-use Rattle.soundness.proofs.Clauses.{reset-source-exact, reset-core-exact}
+use Rattle.soundness.proofs.Clauses.{reset-core-exact}
 use Rattle.soundness.proofs.Test.{sources-apart}
-use Rattle.soundness.proofs.Fits.{fitsAt}
+use Rattle.soundness.proofs.Fits.{fitsAt, AllFit}
 use Rattle.soundness.proofs.Cores.{CoreSound}
 use Rattle.soundness.proofs.Marks.{Boxes, Lowest}
 
@@ -40,14 +41,9 @@ top-small n h g = omega (arith, floor-log2-exact n h (omega arith) .0, four-time
 pub unmapped : {A B : Type 0} (f : A → B) (l : List A) (n : ℕ) → length (map f l) ≡ n → length l ≡ n
 unmapped f l n e = sym (length-map l f) ∙ e
 
--- ---- the spare records
+-- ---- the spare cores
 
-pub spare-sources-exact : (l : List Source) (n : ℕ) → Exact (spareSourcesReset l n) ((i : ℕ) → i < maxSources → n ≤ i → getD l i noSource ≡ resetSource)
-unfolding spareSourcesReset
-spare-sources-exact l n = every-exact maxSources (λ i. from-exact i n (reset-source-exact (getD l i noSource)))
-
-pub spare-cores-exact : (l : List Core) (m : ℕ) → Exact (spareCoresReset l m) ((k : ℕ) → k < maxCores → m ≤ k → getD l k noCore ≡ resetCore)
-unfolding spareCoresReset
+pub spare-cores-exact : (l : List Core) (m : ℕ) → Exact (every maxCores (spareCore l m)) ((k : ℕ) → k < maxCores → m ≤ k → getD l k noCore ≡ resetCore)
 spare-cores-exact l m = every-exact maxCores (λ k. from-exact k m (reset-core-exact (getD l k noCore)))
 
 -- ---- after the loop over the cores
@@ -69,8 +65,8 @@ module _ {s : Controller} {top lowest covered k : ℕ} {seen : List Bool} (e : t
         let r : Source = sourceAt s i in
         and-l (r .pending) (not (r .delivered)) (and-l (waiting r) (not (r .masked)) f)
 
-    pub sources-fit : (i : ℕ) → i < s .n → fitsAt (s .sources) top lowest i
-    sources-fit i h =
+    fits : (i : ℕ) → i < s .n → fitsAt (s .sources) top lowest i
+    fits i h =
         rw e (
           record { configured = w .configured-source i h; request = w .request-range i h; idle = w .idle-source i h },
           λ f.
@@ -78,8 +74,11 @@ module _ {s : Controller} {top lowest covered k : ℕ} {seen : List Bool} (e : t
               (λ j g. w .candidates-settled i j h (omega arith) f),
         )
 
-  pub well-formed : InRange (s .n) (s .m) → (length (s .sources) ≡ maxSources) × (length (s .cores) ≡ maxCores) → covered ≤ lowest → ((j : ℕ) → j < maxCores → s .m ≤ j → coreAt s j ≡ resetCore) → ((i : ℕ) → i < s .n → fitsAt (s .sources) top lowest i) → ((i : ℕ) → i < maxSources → s .n ≤ i → sourceAt s i ≡ resetSource) → WellFormed s
-  well-formed r (sources-length, cores-length) c spare-cores fits spare-sources =
+    pub sources-fit : AllFit (s .sources) (s .n) top lowest
+    sources-fit = (fits, λ i h g. w .spare-source i g h)
+
+  pub well-formed : InRange (s .n) (s .m) → (length (s .sources) ≡ maxSources) × (length (s .cores) ≡ maxCores) → covered ≤ lowest → ((j : ℕ) → j < maxCores → s .m ≤ j → coreAt s j ≡ resetCore) → AllFit (s .sources) (s .n) top lowest → WellFormed s
+  well-formed r (sources-length, cores-length) c spare-cores (fits, spare-sources) =
       let sound : (j : ℕ) → j < s .m → CoreSound s j = λ j h. b .sound j (omega arith) in
       let fit : (i : ℕ) → i < s .n → fitsAt (s .sources) (topPriority (s .n)) lowest i = λ i h. rw e at (fits i h) in
       record {

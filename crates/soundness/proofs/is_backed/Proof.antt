@@ -1,41 +1,34 @@
--- `soundness::is_backed` meets its contract: each test decides the flag or number that is left. Assumes nothing.
-use borrow.Author.Tests.{ne-eqb, eq-eqb, not-true, not-false}
+-- `soundness::is_backed` meets its contract: each test decides one of the facts that the definition asks for. Assumes nothing.
 use Rattle.soundness.specs.Loops.{cleanBacked}
+use Rattle.model.proofs.Bools.{not-out, not-not, clash}
+use Rattle.soundness.proofs.Exact.{Exact, ltb-exact, refused, agree}
+use Rattle.soundness.proofs.Cores.{CleanBacked, clean-backed-exact}
 use Rattle.soundness.proofs.is_backed.Statement.{statement}
 use Rattle.soundness.proofs.is_backed.Tie as tie
 
+-- what the definition asks for
+asked : (c : tie.Start) → Exact (cleanBacked (c .args .c) (c .args .s)) (CleanBacked (c .args .c) (c .args .s))
+asked c = clean-backed-exact (c .args .c) (c .args .s)
+
 returns : tie.Need-returns
-unfolding cleanBacked
-returns c = rw (c .if1 .taken)
+returns c = refused (asked (c .before)) (λ f. clash (c .if1 .taken) (f .0 .0 .0 .0))
 
 returns-2 : tie.Need-returns-2
-unfolding cleanBacked
-returns-2 c = rw (c .before .before .if1 .left, not-true (c .before .before .before .args .s .pending) (c .if2 .taken))
+returns-2 c = refused (asked (c .before .before .before)) (λ f. clash (f .0 .0 .0 .1) (not-out _ (c .if2 .taken)))
 
 returns-3 : tie.Need-returns-3
-unfolding cleanBacked
-returns-3 c =
-    rw (c .before .before .before .before .if1 .left, not-false (c .before .before .before .before .before .args .s .pending) (c .before .before .if2 .left), not-true (c .before .before .before .before .before .args .s .delivered) (c .if3 .taken))
+returns-3 c = refused (asked (c .before .before .before .before .before)) (λ f. clash (f .0 .0 .1) (not-out _ (c .if3 .taken)))
 
 returns-4 : tie.Need-returns-4
-unfolding cleanBacked
-returns-4 c =
-    rw (
-      c .before .before .before .before .before .before .before .if1 .left,
-      not-false (c .before .before .before .before .before .before .before .before .args .s .pending) (c .before .before .before .before .before .if2 .left),
-      not-false (c .before .before .before .before .before .before .before .before .args .s .delivered) (c .before .before .before .if3 .left),
-      ne-eqb _ _ (c .if4 .taken),
-    )
+returns-4 c = refused (asked (c .before .before .before .before .before .before .before .before)) (λ f. c .if4 .taken (f .0 .1))
 
 returns-5 : tie.Need-returns-5
-unfolding cleanBacked
 returns-5 c =
-    rw (
-      c .before .before .before .before .before .before .before .before .if1 .left,
-      not-false (c .before .before .before .before .before .before .before .before .before .args .s .pending) (c .before .before .before .before .before .before .if2 .left),
-      not-false (c .before .before .before .before .before .before .before .before .before .args .s .delivered) (c .before .before .before .before .if3 .left),
-      eq-eqb _ _ (c .before .if4 .left),
-    )
+    let start = c .before .before .before .before .before .before .before .before .before in
+    let clean = c .before .before .before .before .before .before .before .before .if1 .left in
+    let pending = not-not _ (c .before .before .before .before .before .before .if2 .left) in
+    let delivered = not-not _ (c .before .before .before .before .if3 .left) in
+    agree (ltb-exact (start .args .c .configured) (start .args .c .message .priority)) (asked start) (λ h. ((((clean, pending), delivered), c .before .if4 .left), h)) (λ f. f .1)
 
 pub is-backed-spec : {M : Type 1} → statement M
 is-backed-spec = tie.close (tie.spec returns returns-2 returns-3 returns-4 returns-5)

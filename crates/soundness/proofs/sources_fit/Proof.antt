@@ -1,14 +1,19 @@
--- `soundness::sources_fit` meets its contract. The loop's invariant: every source below i fits. Assumes nothing.
+-- `soundness::sources_fit` meets its contract. The first loop's invariant: every source below i fits. The second's: the flag says whether
+-- every spare source below i is reset. Assumes nothing.
 use Prim.Native.Nat.{ℕ, _<_, _≤_, _-_}
-use mathlib.Core.Path.{sym, _∙_}
+use mathlib.Core.Path.{_≡_, sym, _∙_}
+use mathlib.Core.Bool.{false, _&&_}
 use mathlib.Core.Logic.{⊎-elim}
 use native.Mathlib.Omega.{arith}
 use lib.ListN.{getD}
 use borrow.Author.Count.{below-more}
-use Rattle.model.specs.Records.{noSource}
+use Rattle.model.specs.Records.{maxSources, noSource}
+use Rattle.model.specs.Walks.{every}
 use Rattle.model.proofs.Bools.{clash}
-use Rattle.soundness.proofs.Exact.{passes}
-use Rattle.soundness.proofs.Fits.{fits-pending, fits-idle, fitsAt, sources-fit-exact, fits-off}
+use Rattle.soundness.specs.Loops.{sourcesFit, spareSource, spareSourcesReset}
+use Rattle.soundness.proofs.Exact.{between-exact, refused, accepted, rejected}
+use Rattle.soundness.proofs.Turns.{since-begin, since-turn, since-end}
+use Rattle.soundness.proofs.Fits.{fits-pending, fits-idle, fitsAt, sources-fit-exact, fits-end}
 use Rattle.soundness.proofs.sources_fit.Statement.{statement}
 use Rattle.soundness.proofs.sources_fit.Tie as tie
 
@@ -18,105 +23,134 @@ Inv-loop n top lowest sources i₀ i = (i ≤ n) × ((j : ℕ) → j < i → fit
 abbrev μ-loop : tie.MeasureT-loop
 μ-loop n top lowest sources i₀ i = n - i
 
-loop-holds : tie.Need-loop-holds Inv-loop μ-loop
+abbrev Inv-loop2 : tie.InvT-loop2
+Inv-loop2 n top lowest sources i₀ fresh₀ i fresh =
+    (n ≤ i) × ((i ≤ maxSources) × (fresh ≡ every i (spareSource sources n)))
+
+abbrev μ-loop2 : tie.MeasureT-loop2
+μ-loop2 n top lowest sources i₀ fresh₀ i fresh = maxSources - i
+
+-- a source that fails a test doesn't fit
+refuted : (c : tie.In-loop Inv-loop μ-loop Inv-loop2 μ-loop2) → let a = c .before .before .args in ¬ fitsAt (a .t1) (a .top) (a .lowest) (c .before .loop .i) → false ≡ sourcesFit (a .t1) (a .n) (a .top) (a .lowest) && spareSourcesReset (a .t1) (a .n)
+refuted c r =
+    let a = c .before .before .args in
+    refused (sources-fit-exact (a .t1) (a .n) (a .top) (a .lowest)) (λ f. r (f .0 (c .before .loop .i) (c .loop-test .taken)))
+
+loop-holds : tie.Need-loop-holds Inv-loop μ-loop Inv-loop2 μ-loop2
 loop-holds c = (omega arith, λ j h. absurd (omega arith))
 
-mul-configured : tie.Need-mul-configured Inv-loop μ-loop
-mul-configured c = omega arith
+mul-in-range : tie.Need-mul-in-range Inv-loop μ-loop Inv-loop2 μ-loop2
+mul-in-range c = omega arith
 
-element-copy-out-configured : tie.Need-element-copy-out-configured Inv-loop μ-loop
-element-copy-out-configured c = omega arith
+element-copy-out-in-range : tie.Need-element-copy-out-in-range Inv-loop μ-loop Inv-loop2 μ-loop2
+element-copy-out-in-range c = omega arith
 
-returns : tie.Need-returns Inv-loop μ-loop
+in-range-requires : tie.Need-in-range-requires Inv-loop μ-loop Inv-loop2 μ-loop2
+in-range-requires c κs = tt
+
+returns : tie.Need-returns Inv-loop μ-loop Inv-loop2 μ-loop2
 returns c =
-    let a = c .before .before .before .args in
-    fits-off (a .t1) (a .top) (a .lowest) (a .n) (c .before .before .loop .i) (omega arith) (λ f. omega arith)
+    refuted (c .before .before)
+    (λ f. rejected (between-exact 1 _ _) (c .before .in-range .ensures) (c .if1 .taken) (f .0 .configured))
 
-returns-2 : tie.Need-returns-2 Inv-loop μ-loop
-returns-2 c =
-    let a = c .before .before .before .before .args in
-    fits-off (a .t1) (a .top) (a .lowest) (a .n) (c .before .before .before .loop .i) (omega arith) (λ f. omega arith)
-
-mul-p : tie.Need-mul-p Inv-loop μ-loop
+mul-p : tie.Need-mul-p Inv-loop μ-loop Inv-loop2 μ-loop2
 mul-p c = omega arith
 
-element-copy-out-p : tie.Need-element-copy-out-p Inv-loop μ-loop
+element-copy-out-p : tie.Need-element-copy-out-p Inv-loop μ-loop Inv-loop2 μ-loop2
 element-copy-out-p c = omega arith
 
-mul-if3 : tie.Need-mul-if3 Inv-loop μ-loop
-mul-if3 c = omega arith
+mul-if2 : tie.Need-mul-if2 Inv-loop μ-loop Inv-loop2 μ-loop2
+mul-if2 c = omega arith
 
-element-copy-out-if3 : tie.Need-element-copy-out-if3 Inv-loop μ-loop
-element-copy-out-if3 c = omega arith
+element-copy-out-if2 : tie.Need-element-copy-out-if2 Inv-loop μ-loop Inv-loop2 μ-loop2
+element-copy-out-if2 c = omega arith
 
-returns-3 : tie.Need-returns-3 Inv-loop μ-loop
-returns-3 c =
-    let a = c .before .before .before .before .before .before .args in
-    fits-off (a .t1) (a .top) (a .lowest) (a .n) (c .before .before .before .before .before .loop .i) (omega arith)
-    (λ f. omega (arith, f .0 .request (c .before .if3 .taken)))
+in-range-requires-2 : tie.Need-in-range-requires-2 Inv-loop μ-loop Inv-loop2 μ-loop2
+in-range-requires-2 c κs = tt
 
-returns-4 : tie.Need-returns-4 Inv-loop μ-loop
-returns-4 c =
-    let a = c .before .before .before .before .before .before .before .args in
-    fits-off (a .t1) (a .top) (a .lowest) (a .n) (c .before .before .before .before .before .before .loop .i) (omega arith)
-    (λ f. omega (arith, f .0 .request (c .before .before .if3 .taken)))
+returns-2 : tie.Need-returns-2 Inv-loop μ-loop Inv-loop2 μ-loop2
+returns-2 c =
+    refuted (c .before .before .before .before .before)
+    (λ f.
+    rejected (between-exact 1 _ _) (c .before .in-range2 .ensures) (c .if3 .taken) (f .0 .request (c .before .before .if2 .taken)))
 
-mul-is-candidate : tie.Need-mul-is-candidate Inv-loop μ-loop
+mul-is-candidate : tie.Need-mul-is-candidate Inv-loop μ-loop Inv-loop2 μ-loop2
 mul-is-candidate c = omega arith
 
-array-copy-out-is-candidate : tie.Need-array-copy-out-is-candidate Inv-loop μ-loop
+array-copy-out-is-candidate : tie.Need-array-copy-out-is-candidate Inv-loop μ-loop Inv-loop2 μ-loop2
 array-copy-out-is-candidate c = omega arith
 
-is-candidate-requires : tie.Need-is-candidate-requires Inv-loop μ-loop
+is-candidate-requires : tie.Need-is-candidate-requires Inv-loop μ-loop Inv-loop2 μ-loop2
 is-candidate-requires c κs = tt
 
-returns-5 : tie.Need-returns-5 Inv-loop μ-loop
+returns-3 : tie.Need-returns-3 Inv-loop μ-loop Inv-loop2 μ-loop2
+returns-3 c =
+    refuted (c .before .before .before .before .before .before .before .before .before)
+    (λ f. omega (arith, f .1 (sym (c .before .is-candidate .ensures) ∙ c .if5 .taken)))
+
+returns-4 : tie.Need-returns-4 Inv-loop μ-loop Inv-loop2 μ-loop2
+returns-4 c = refuted (c .before .before .before .before) (λ f. c .if6 .taken (f .0 .idle (c .before .if2 .left) .1))
+
+mul-if7 : tie.Need-mul-if7 Inv-loop μ-loop Inv-loop2 μ-loop2
+mul-if7 c = omega arith
+
+element-copy-out-if7 : tie.Need-element-copy-out-if7 Inv-loop μ-loop Inv-loop2 μ-loop2
+element-copy-out-if7 c = omega arith
+
+returns-5 : tie.Need-returns-5 Inv-loop μ-loop Inv-loop2 μ-loop2
 returns-5 c =
-    let a = c .before .before .before .before .before .before .before .before .before .before .before .args in
-    fits-off (a .t1) (a .top) (a .lowest) (a .n) (c .before .before .before .before .before .before .before .before .before .before .loop .i) (omega arith)
-    (λ f. omega (arith, f .1 (sym (c .before .is-candidate .ensures) ∙ c .if7 .taken)))
+    refuted (c .before .before .before .before .before) (λ f. clash (c .if7 .taken) (f .0 .idle (c .before .before .if2 .left) .0))
 
-returns-6 : tie.Need-returns-6 Inv-loop μ-loop
-returns-6 c =
-    let a = c .before .before .before .before .before .before .args in
-    fits-off (a .t1) (a .top) (a .lowest) (a .n) (c .before .before .before .before .before .loop .i) (omega arith)
-    (λ f. c .if8 .taken (f .0 .idle (c .before .if3 .left) .1))
-
-mul-if9 : tie.Need-mul-if9 Inv-loop μ-loop
-mul-if9 c = omega arith
-
-element-copy-out-if9 : tie.Need-element-copy-out-if9 Inv-loop μ-loop
-element-copy-out-if9 c = omega arith
-
-returns-7 : tie.Need-returns-7 Inv-loop μ-loop
-returns-7 c =
-    let a = c .before .before .before .before .before .before .before .args in
-    fits-off (a .t1) (a .top) (a .lowest) (a .n) (c .before .before .before .before .before .before .loop .i) (omega arith)
-    (λ f. clash (c .if9 .taken) (f .0 .idle (c .before .before .if3 .left) .0))
-
-add-i : tie.Need-add-i Inv-loop μ-loop
+add-i : tie.Need-add-i Inv-loop μ-loop Inv-loop2 μ-loop2
 add-i c = omega arith
 
-loop-less : tie.Need-loop-less Inv-loop μ-loop
+loop-less : tie.Need-loop-less Inv-loop μ-loop Inv-loop2 μ-loop2
 loop-less c = omega arith
 
-loop-again : tie.Need-loop-again Inv-loop μ-loop
+loop-again : tie.Need-loop-again Inv-loop μ-loop Inv-loop2 μ-loop2
 loop-again c =
     let a = c .before .before .before .before .before .args in
     let i = c .before .before .before .before .loop .i in
     let r = getD (a .t1) i noSource in
-    let pending = fits-pending (a .top) (a .lowest) r (c .before .before .if1 .left) (c .before .if2 .left) in
-    let idle = fits-idle (a .top) (a .lowest) r (c .before .before .if1 .left) (c .before .if2 .left) in
+    let g = accepted (between-exact 1 (a .top) (r .configured)) (c .before .before .in-range .ensures) (c .before .if1 .left) in
+    let x = between-exact 1 (a .top) (r .priority) in
+    let pending = fits-pending (a .top) (a .lowest) r g in
     let here : fitsAt (a .t1) (a .top) (a .lowest) i =
-    ⊎-elim (λ w. pending (w .0 .taken) (w .1 .left) (w .2 .left) (λ e. clash e (sym (w .5 .ensures) ∙ w .6 .left)))
-    (⊎-elim (λ w. pending (w .0 .taken) (w .1 .left) (w .2 .left) (λ e. w .3 .left)) (λ w. idle (w .0 .left) (w .1 .left) (w .2 .left)))
-    (c .if3 .came)
+    ⊎-elim (λ w. pending (w .0 .taken) (accepted x (w .1 .ensures) (w .2 .left)) (λ e. clash e (sym (w .5 .ensures) ∙ w .6 .left)))
+    (⊎-elim (λ w. pending (w .0 .taken) (accepted x (w .1 .ensures) (w .2 .left)) (λ e. w .3 .left)) (λ w. fits-idle (a .top) (a .lowest) r g (w .0 .left) (w .1 .left) (w .2 .left)))
+    (c .if2 .came)
     in (omega arith, below-more (fitsAt (a .t1) (a .top) (a .lowest)) i (c .before .before .before .before .loop .inv .1) here)
 
-returns-8 : tie.Need-returns-8 Inv-loop μ-loop
-returns-8 c =
-    let a = c .before .before .args in
-    passes (sources-fit-exact (a .t1) (a .top) (a .lowest) (a .n)) (λ j h. c .before .loop .inv .1 j (omega arith))
+loop2-holds : tie.Need-loop2-holds Inv-loop μ-loop Inv-loop2 μ-loop2
+loop2-holds c = (omega arith, (omega arith, since-begin _ _ _ (omega arith)))
+
+mul-is-reset-source : tie.Need-mul-is-reset-source Inv-loop μ-loop Inv-loop2 μ-loop2
+mul-is-reset-source c = omega arith
+
+array-copy-out-is-reset-source : tie.Need-array-copy-out-is-reset-source Inv-loop μ-loop Inv-loop2 μ-loop2
+array-copy-out-is-reset-source c = omega arith
+
+is-reset-source-requires : tie.Need-is-reset-source-requires Inv-loop μ-loop Inv-loop2 μ-loop2
+is-reset-source-requires c κs = tt
+
+add-i-2 : tie.Need-add-i-2 Inv-loop μ-loop Inv-loop2 μ-loop2
+add-i-2 c = omega arith
+
+loop2-less : tie.Need-loop2-less Inv-loop μ-loop Inv-loop2 μ-loop2
+loop2-less c = omega arith
+
+loop2-again : tie.Need-loop2-again Inv-loop μ-loop Inv-loop2 μ-loop2
+loop2-again c =
+    let l = c .before .before .before .before .loop2 in
+    let (off, more) = since-turn _ _ _ (l .inv .1 .1) (omega arith) (c .before .is-reset-source .ensures) in
+    (omega arith, (omega arith, ⊎-elim (λ w. w .1 ∙ off (w .0 .taken)) (λ w. w .1 ∙ more (w .0 .left)) (c .if8 .came)))
+
+returns-6 : tie.Need-returns-6 Inv-loop μ-loop Inv-loop2 μ-loop2
+unfolding spareSourcesReset
+returns-6 c =
+    let a = c .before .before .before .before .args in
+    fits-end (a .t1) (a .n) (a .top) (a .lowest) (λ j h. c .before .before .before .loop .inv .1 j (omega arith))
+    (since-end _ _ _ (c .before .loop2 .inv .1 .1) maxSources (omega arith))
 
 pub sources-fit-spec : {M : Type 1} → statement M
 sources-fit-spec =
@@ -124,26 +158,35 @@ sources-fit-spec =
     (tie.spec
     Inv-loop
     μ-loop
+    Inv-loop2
+    μ-loop2
     loop-holds
-    mul-configured
-    element-copy-out-configured
+    mul-in-range
+    element-copy-out-in-range
+    in-range-requires
     returns
-    returns-2
     mul-p
     element-copy-out-p
-    mul-if3
-    element-copy-out-if3
-    returns-3
-    returns-4
+    mul-if2
+    element-copy-out-if2
+    in-range-requires-2
+    returns-2
     mul-is-candidate
     array-copy-out-is-candidate
     is-candidate-requires
+    returns-3
+    returns-4
+    mul-if7
+    element-copy-out-if7
     returns-5
-    returns-6
-    mul-if9
-    element-copy-out-if9
-    returns-7
     add-i
     loop-less
     loop-again
-    returns-8)
+    loop2-holds
+    mul-is-reset-source
+    array-copy-out-is-reset-source
+    is-reset-source-requires
+    add-i-2
+    loop2-less
+    loop2-again
+    returns-6)
