@@ -1,5 +1,6 @@
 -- Reading a list of commands from numbers, three at a time. Assumes nothing.
 --   Read ws s state taken at     of ws the numbers before at are read, and the run from s has come to state
+--   front-one                    a command that can be read, and what stands behind it
 --   read-none, read-one          nothing is read; one more command is read
 --   read-bad, read-end           what the run answers at a number above 7, and with fewer than three numbers left
 use Prim.Native.Nat.{ℕ, suc, _+_, _-_, _<_, _≤_}
@@ -21,7 +22,9 @@ use Rattle.model.specs.Encoding.{commandOf, decode, isWhole, ranOf}
 
 -- ---- a list from an index on
 
-drop-three : (ws : List ℕ) (at : ℕ) → at + 3 ≤ length ws → drop at ws ≡ getD ws at 0 ∷ getD ws (at + 1) 0 ∷ getD ws (at + 2) 0 ∷ drop (at + 3) ws
+drop-three :
+    (ws : List ℕ) (at : ℕ) → at + 3 ≤ length ws →
+    drop at ws ≡ getD ws at 0 ∷ getD ws (at + 1) 0 ∷ getD ws (at + 2) 0 ∷ drop (at + 3) ws
 drop-three ws at h =
     let h₀ : at < length ws = omega arith in
     let h₁ : suc at < length ws = omega arith in
@@ -36,40 +39,25 @@ none-left at n h = go (eqb at n) refl
     go true e = eq-eqb (n - at) 0 (omega (arith, eqb-true at n e))
     go false e = ne-eqb (n - at) 0 (λ q. eqb-false at n e (omega arith))
 
--- ---- one command
+-- ---- the front of a list: what is decoded of it, and whether it is whole
 
--- a command that can be read
-pub decode-one : (number at p : ℕ) (rest : List ℕ) → number < 8 → decode (number ∷ at ∷ p ∷ rest) ≡ commandOf number at p ∷ decode rest
-unfolding decode
-decode-one number at p rest h = rw (lt-ltb number 8 h)
+module _ (number at p : ℕ) (rest : List ℕ) where
+  pub front-one :
+      number < 8 →
+      (decode (number ∷ at ∷ p ∷ rest) ≡ commandOf number at p ∷ decode rest) × (isWhole (number ∷ at ∷ p ∷ rest) ≡ isWhole rest)
+  unfolding decode isWhole
+  front-one h = rw (lt-ltb number 8 h) (refl, refl)
 
-pub whole-one : (number at p : ℕ) (rest : List ℕ) → number < 8 → isWhole (number ∷ at ∷ p ∷ rest) ≡ isWhole rest
-unfolding isWhole
-whole-one number at p rest h = rw (lt-ltb number 8 h)
+  front-bad : 8 ≤ number → (decode (number ∷ at ∷ p ∷ rest) ≡ []) × (isWhole (number ∷ at ∷ p ∷ rest) ≡ false)
+  unfolding decode isWhole
+  front-bad h = rw (le-ltb number 8 h) (refl, refl)
 
--- a number above 7
-decode-bad : (number at p : ℕ) (rest : List ℕ) → 8 ≤ number → decode (number ∷ at ∷ p ∷ rest) ≡ []
-unfolding decode
-decode-bad number at p rest h = rw (le-ltb number 8 h)
-
-whole-bad : (number at p : ℕ) (rest : List ℕ) → 8 ≤ number → isWhole (number ∷ at ∷ p ∷ rest) ≡ false
-unfolding isWhole
-whole-bad number at p rest h = rw (le-ltb number 8 h)
-
--- fewer than three numbers
-decode-cut : (l : List ℕ) → length l < 3 → decode l ≡ []
-unfolding decode
-decode-cut [] h = refl
-decode-cut (a ∷ []) h = refl
-decode-cut (a ∷ b ∷ []) h = refl
-decode-cut (a ∷ b ∷ c ∷ rest) h = absurd (omega arith)
-
-whole-cut : (l : List ℕ) → length l < 3 → isWhole l ≡ eqb (length l) 0
-unfolding isWhole
-whole-cut [] h = refl
-whole-cut (a ∷ []) h = refl
-whole-cut (a ∷ b ∷ []) h = refl
-whole-cut (a ∷ b ∷ c ∷ rest) h = absurd (omega arith)
+front-cut : (l : List ℕ) → length l < 3 → (decode l ≡ []) × (isWhole l ≡ eqb (length l) 0)
+unfolding decode isWhole
+front-cut [] h = (refl, refl)
+front-cut (a ∷ []) h = (refl, refl)
+front-cut (a ∷ b ∷ []) h = (refl, refl)
+front-cut (a ∷ b ∷ c ∷ rest) h = absurd (omega arith)
 
 -- ---- the loop
 
@@ -84,23 +72,29 @@ pub read-none : (ws : List ℕ) (s : Controller) → Read ws s s 0 0
 read-none ws s = record { at-le = omega arith; taken-le = omega arith; runs = refl; counts = omega arith; wholes = refl }
 
 module _ (ws : List ℕ) (s state : Controller) (taken at : ℕ) (r : Read ws s state taken at) where
-  pub read-one : at + 3 ≤ length ws → getD ws at 0 < 8 → (c : Command) (a : Answer) → c ≡ commandOf (getD ws at 0) (getD ws (at + 1) 0) (getD ws (at + 2) 0) → a ≡ execute state c → Read ws s (a .state) (taken + 1) (at + 3)
+  pub read-one :
+      at + 3 ≤ length ws → getD ws at 0 < 8 → (c : Command) (a : Answer) →
+      c ≡ commandOf (getD ws at 0) (getD ws (at + 1) 0) (getD ws (at + 2) 0) → a ≡ execute state c →
+      Read ws s (a .state) (taken + 1) (at + 3)
   unfolding run
   read-one h k c a e f =
-      let number = getD ws at 0 in
-      let three = drop-three ws at h in
       let rest = drop (at + 3) ws in
-      let commands : decode (drop at ws) ≡ c ∷ decode rest = ap decode three ∙ decode-one number (getD ws (at + 1) 0) (getD ws (at + 2) 0) rest k ∙ ap (λ (x : Command). x ∷ decode rest) (sym e) in
+      let three = drop-three ws at h in
+      let one = front-one (getD ws at 0) (getD ws (at + 1) 0) (getD ws (at + 2) 0) rest k in
+      let commands : decode (drop at ws) ≡ c ∷ decode rest
+      = ap decode three ∙ one .0 ∙ ap (λ (x : Command). x ∷ decode rest) (sym e) in
       record {
         at-le = omega arith;
         taken-le = omega (arith, r .taken-le);
         runs = ap (λ (x : Answer). run (x .state) (decode rest)) f ∙ ap (run state) (sym commands) ∙ r .runs;
         counts = omega (arith, ap length commands, r .counts);
-        wholes = sym (whole-one number (getD ws (at + 1) 0) (getD ws (at + 2) 0) rest k) ∙ sym (ap isWhole three) ∙ r .wholes;
+        wholes = sym (one .1) ∙ sym (ap isWhole three) ∙ r .wholes;
       }
 
   -- nothing more can be read
-  ends : decode (drop at ws) ≡ [] → (whole : Bool) → isWhole (drop at ws) ≡ whole → _≡_ {A = Ran} (record { state = state; taken = taken; whole = whole }) (ranOf s ws)
+  ends :
+      decode (drop at ws) ≡ [] → (whole : Bool) → isWhole (drop at ws) ≡ whole →
+      _≡_ {A = Ran} (record { state = state; taken = taken; whole = whole }) (ranOf s ws)
   unfolding run
   ends e whole f =
       let same-state : state ≡ run s (decode ws) = sym (ap (run state) e) ∙ r .runs in
@@ -108,15 +102,18 @@ module _ (ws : List ℕ) (s state : Controller) (taken at : ℕ) (r : Read ws s 
       let same-whole : whole ≡ isWhole ws = sym f ∙ r .wholes in
       λ t. record { state = same-state t; taken = same-count t; whole = same-whole t }
 
-  pub read-bad : at + 3 ≤ length ws → 8 ≤ getD ws at 0 → _≡_ {A = Ran} (record { state = state; taken = taken; whole = false }) (ranOf s ws)
+  pub read-bad :
+      at + 3 ≤ length ws → 8 ≤ getD ws at 0 →
+      _≡_ {A = Ran} (record { state = state; taken = taken; whole = false }) (ranOf s ws)
   read-bad h k =
       let three = drop-three ws at h in
-      ends (ap decode three ∙ decode-bad (getD ws at 0) (getD ws (at + 1) 0) (getD ws (at + 2) 0) (drop (at + 3) ws) k)
-      false
-      (ap isWhole three ∙ whole-bad (getD ws at 0) (getD ws (at + 1) 0) (getD ws (at + 2) 0) (drop (at + 3) ws) k)
+      let bad = front-bad (getD ws at 0) (getD ws (at + 1) 0) (getD ws (at + 2) 0) (drop (at + 3) ws) k in
+      ends (ap decode three ∙ bad .0) false (ap isWhole three ∙ bad .1)
 
-  pub read-end : length ws < at + 3 → _≡_ {A = Ran} (record { state = state; taken = taken; whole = eqb at (length ws) }) (ranOf s ws)
+  pub read-end :
+      length ws < at + 3 →
+      _≡_ {A = Ran} (record { state = state; taken = taken; whole = eqb at (length ws) }) (ranOf s ws)
   read-end h =
-      let left : length (drop at ws) < 3 = omega (arith, length-drop at ws, r .at-le) in
-      ends (decode-cut (drop at ws) left) (eqb at (length ws))
-      (whole-cut (drop at ws) left ∙ ap (λ (x : ℕ). eqb x 0) (length-drop at ws) ∙ none-left at (length ws) (r .at-le))
+      let cut = front-cut (drop at ws) (omega (arith, length-drop at ws, r .at-le)) in
+      ends (cut .0) (eqb at (length ws))
+      (cut .1 ∙ ap (λ (x : ℕ). eqb x 0) (length-drop at ws) ∙ none-left at (length ws) (r .at-le))

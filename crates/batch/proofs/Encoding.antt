@@ -9,7 +9,7 @@ use Rattle.model.specs.declared.Command.{Command}
 use Rattle.model.specs.declared.Command.the-variants.{SetSourcePriority, Mask, Unmask, SetCorePriority, Trigger, Claim, Redeliver, Complete}
 use Rattle.model.specs.Encoding.{commandOf, decode, isWhole}
 use Rattle.batch.specs.Statements.{numberOf, targetOf, levelOf, encode, EncodingRead, EncodingBounded}
-use Rattle.batch.proofs.Decoding.{decode-one, whole-one}
+use Rattle.batch.proofs.Decoding.{front-one}
 
 number-small : (c : Command) → numberOf c < 8
 number-small (SetSourcePriority id p) = omega arith
@@ -32,16 +32,16 @@ read-back (Claim k) = refl
 read-back (Redeliver id) = refl
 read-back (Complete id) = refl
 
-pub decode-encode : (cs : List Command) → decode (encode cs) ≡ cs
+decode-encode : (cs : List Command) → decode (encode cs) ≡ cs
 unfolding encode decode
 decode-encode [] = refl
 decode-encode (c ∷ cs) =
-    decode-one (numberOf c) (targetOf c) (levelOf c) (encode cs) (number-small c) ∙ ap₂ _∷_ (read-back c) (decode-encode cs)
+    front-one (numberOf c) (targetOf c) (levelOf c) (encode cs) (number-small c) .0 ∙ ap₂ _∷_ (read-back c) (decode-encode cs)
 
-pub encode-whole : (cs : List Command) → isWhole (encode cs) ≡ true
+encode-whole : (cs : List Command) → isWhole (encode cs) ≡ true
 unfolding encode isWhole
 encode-whole [] = refl
-encode-whole (c ∷ cs) = whole-one (numberOf c) (targetOf c) (levelOf c) (encode cs) (number-small c) ∙ encode-whole cs
+encode-whole (c ∷ cs) = front-one (numberOf c) (targetOf c) (levelOf c) (encode cs) (number-small c) .1 ∙ encode-whole cs
 
 pub encoding-read : EncodingRead
 encoding-read cs = (decode-encode cs, encode-whole cs)

@@ -1,11 +1,16 @@
--- The flags of a source and of a core tested one at a time, and the test of all flags as two loops. Assumes nothing.
+-- The test of a state's bytes: the flags of one record, and those of all records one after another. Assumes nothing.
+--   first-no-flag, second-no-flag, third-flag        the test of a source, from those of its flags
+--   first-no-core-flag, second-core-flag             the test of a core
+--   Passed, passed-none, source-passed, core-passed  how far the bytes have passed
+--   all-passed                                       past the last source and the last core they encode a state
+--   wrong-size, no-source-flags, no-core-flags       what the test answers as soon as one part fails
 use Prim.Native.Nat.{ℕ, _+_, _*_, _<_, _≤_}
-use mathlib.Core.Path.{_≡_, refl, sym, _∙_}
+use mathlib.Core.Path.{_≡_, refl}
 use mathlib.Core.List.{List}
-use mathlib.Core.Bool.{Bool, true, false, and-false, not}
+use mathlib.Core.Bool.{Bool, true, false, and-false}
 use native.Mathlib.Omega.{arith}
 use native.Mathlib.Numerals.{add-one}
-use borrow.Author.Tests.{lt-leb, le-leb, eq-eqb, ne-eqb, not-true, not-false}
+use borrow.Author.Tests.{lt-leb, le-leb, eq-eqb, ne-eqb}
 use lib.ListN.{length, getD}
 use lib.Dec.{leb}
 use Rattle.model.specs.Records.{maxSources, maxCores}
@@ -32,18 +37,24 @@ module _ (b : List ℕ) (i : ℕ) where
   pub second-core-flag : getD b (i + 2) 0 ≤ 1 → leb (getD b (i + 3) 0) 1 ≡ coreFlags b i
   second-core-flag g = rw (le-leb _ _ g)
 
--- ---- all records
+-- ---- a test of every number below n, a number at a time
 
-abbrev pub sourceFlagsOf : List ℕ → ℕ → Bool
-sourceFlagsOf b i = sourceFlags b (sourcesFrom + sourceSize * i)
+-- the first i of n numbers pass
+pub record Passing (n : ℕ) (f : ℕ → Bool) (i : ℕ) : Type 0 where
+  pub within : i ≤ n
+  pub all : every i f ≡ true
 
-abbrev pub coreFlagsOf : List ℕ → ℕ → Bool
-coreFlagsOf b k = coreFlags b (coresFrom + coreSize * k)
-
--- one more number passed, counted as code counts
-every-more : (n : ℕ) (f : ℕ → Bool) → every n f ≡ true → f n ≡ true → every (n + 1) f ≡ true
+passing-none : (n : ℕ) (f : ℕ → Bool) → Passing n f 0
 unfolding every
-every-more n f p q = rw add-one (and-in p q)
+passing-none n f = record { within = omega arith; all = refl }
+
+module _ {n : ℕ} {f : ℕ → Bool} {i : ℕ} (p : Passing n f i) where
+  passing-more : i < n → f i ≡ true → Passing n f (i + 1)
+  unfolding every
+  passing-more h e = record { within = omega arith; all = rw add-one (and-in (p .all) e) }
+
+  passing-all : n ≤ i → every n f ≡ true
+  passing-all h = let e : i ≡ n = omega (arith, p .within) in rw e at (p .all)
 
 not-every : (n : ℕ) (f : ℕ → Bool) (i : ℕ) → i < n → f i ≡ false → every n f ≡ false
 not-every n f i h e = go (flag (every n f))
@@ -52,63 +63,45 @@ not-every n f i h e = go (flag (every n f))
     go (on p) = clash (every-out n f p i h) e
     go (off p) = p
 
+-- ---- all records
+
+abbrev pub sourceFlagsOf : List ℕ → ℕ → Bool
+sourceFlagsOf b i = sourceFlags b (sourcesFrom + sourceSize * i)
+
+abbrev pub coreFlagsOf : List ℕ → ℕ → Bool
+coreFlagsOf b k = coreFlags b (coresFrom + coreSize * k)
+
+-- b has a state's length, and flags in its first i sources and its first k cores
+pub record Passed (b : List ℕ) (i k : ℕ) : Type 0 where
+  pub size : length b ≡ stateSize
+  pub sources : Passing maxSources (sourceFlagsOf b) i
+  pub cores : Passing maxCores (coreFlagsOf b) k
+
 module _ (b : List ℕ) where
-  -- where the first loop stands at source i, and the second at core k
-  pub record SourcesPassed (i : ℕ) : Type 0 where
-    pub size : length b ≡ stateSize
-    pub within : i ≤ maxSources
-    pub sources : every i (sourceFlagsOf b) ≡ true
-
-  pub record CoresPassed (k : ℕ) : Type 0 where
-    pub size : length b ≡ stateSize
-    pub within : k ≤ maxCores
-    pub sources : every maxSources (sourceFlagsOf b) ≡ true
-    pub cores : every k (coreFlagsOf b) ≡ true
-
   pub wrong-size : (length b ≡ stateSize → ⊥) → false ≡ isState b
   unfolding isState
   wrong-size h = rw (ne-eqb _ _ h)
 
-  pub no-source-flags : (i : ℕ) (r : Bool) → i < maxSources → r ≡ sourceFlagsOf b i → not r ≡ true → false ≡ isState b
+  pub no-source-flags : (i : ℕ) → i < maxSources → sourceFlagsOf b i ≡ false → false ≡ isState b
   unfolding isState
-  no-source-flags i r h e t = simp (not-every maxSources (sourceFlagsOf b) i h (sym e ∙ not-true r t), and-false)
+  no-source-flags i h e = simp (not-every maxSources (sourceFlagsOf b) i h e, and-false)
 
-  pub no-core-flags : (k : ℕ) (r : Bool) → k < maxCores → r ≡ coreFlagsOf b k → not r ≡ true → false ≡ isState b
+  pub no-core-flags : (k : ℕ) → k < maxCores → coreFlagsOf b k ≡ false → false ≡ isState b
   unfolding isState
-  no-core-flags k r h e t = simp (not-every maxCores (coreFlagsOf b) k h (sym e ∙ not-true r t), and-false)
+  no-core-flags k h e = simp (not-every maxCores (coreFlagsOf b) k h e, and-false)
 
-  pub sources-start : length b ≡ stateSize → SourcesPassed 0
-  unfolding every
-  sources-start e = record { size = e; within = omega arith; sources = refl }
+  pub passed-none : length b ≡ stateSize → Passed b 0 0
+  passed-none e =
+      record { size = e; sources = passing-none maxSources (sourceFlagsOf b); cores = passing-none maxCores (coreFlagsOf b) }
 
-  pub sources-turn :
-      (i : ℕ) (r : Bool) → SourcesPassed i → i < maxSources → r ≡ sourceFlagsOf b i → not r ≡ false → SourcesPassed (i + 1)
-  sources-turn i r p h e t =
-      record {
-        size = p .size;
-        within = omega arith;
-        sources = every-more i (sourceFlagsOf b) (p .sources) (sym e ∙ not-false r t);
-      }
+  module _ (i k : ℕ) (p : Passed b i k) where
+    pub source-passed : i < maxSources → sourceFlagsOf b i ≡ true → Passed b (i + 1) k
+    source-passed h e = record { size = p .size; sources = passing-more (p .sources) h e; cores = p .cores }
 
-  pub cores-start : (i : ℕ) → SourcesPassed i → maxSources ≤ i → CoresPassed 0
-  unfolding every
-  cores-start i p h =
-      let e : i ≡ maxSources = omega (arith, p .within) in
-      record { size = p .size; within = omega arith; sources = rw e at (p .sources); cores = refl }
+    pub core-passed : k < maxCores → coreFlagsOf b k ≡ true → Passed b i (k + 1)
+    core-passed h e = record { size = p .size; sources = p .sources; cores = passing-more (p .cores) h e }
 
-  pub cores-turn :
-      (k : ℕ) (r : Bool) → CoresPassed k → k < maxCores → r ≡ coreFlagsOf b k → not r ≡ false → CoresPassed (k + 1)
-  cores-turn k r p h e t =
-      record {
-        size = p .size;
-        within = omega arith;
-        sources = p .sources;
-        cores = every-more k (coreFlagsOf b) (p .cores) (sym e ∙ not-false r t);
-      }
-
-  pub all-flags : (k : ℕ) → CoresPassed k → maxCores ≤ k → true ≡ isState b
-  unfolding isState
-  all-flags k p h =
-      let e : k ≡ maxCores = omega (arith, p .within) in
-      let cores : every maxCores (coreFlagsOf b) ≡ true = rw e at (p .cores) in
-      rw (eq-eqb (length b) stateSize (p .size), p .sources, cores)
+    pub all-passed : maxSources ≤ i → maxCores ≤ k → true ≡ isState b
+    unfolding isState
+    all-passed h g =
+        rw (eq-eqb (length b) stateSize (p .size), passing-all (p .sources) h, passing-all (p .cores) g)

@@ -1,4 +1,8 @@
--- Reading bytes: a source and a core from their parts, and a state's records one after another, as two loops. Assumes nothing.
+-- Reading bytes: a source and a core from their parts, and a state's records one after another. Assumes nothing.
+--   source-read, core-read                          one record, from what was read of each part
+--   Filled                                          a list whose first elements are a function's values
+--   Read, read-none, source-more, core-more         how far a state is read
+--   all-read                                        past the last source and the last core it is the state that the bytes encode
 use Prim.Native.Nat.{ℕ, _+_, _*_, _<_, _≤_}
 use mathlib.Core.Path.{_≡_, refl, sym, _∙_, ap}
 use mathlib.Core.List.{List}
@@ -13,7 +17,7 @@ use Rattle.model.specs.declared.Controller.{Controller}
 use Rattle.model.specs.Records.{maxSources, maxCores, sourceId, sourceWith, boxWith, coreWith, withSource, withCore, reset}
 use Rattle.model.specs.Bytes.{wordAt, flagAt, sourcesFrom, coresFrom, sourceSize, coreSize, sourceFrom, coreFrom, tabulated, stateFrom}
 
--- ---- one record, from what was read of each part
+-- ---- one record
 
 module _ (b : List ℕ) (i : ℕ) where
   pub source-read :
@@ -30,20 +34,28 @@ module _ (b : List ℕ) (i : ℕ) where
 
 -- ---- a list filled from the front
 
--- the first i elements of l are f's values
-abbrev Filled : {A : Type 0} → (ℕ → A) → List A → ℕ → Type 0
-Filled f l i = take i l ≡ tabulated i f
+-- the first i of l's n elements are f's values
+pub record Filled {A : Type 0} (f : ℕ → A) (n : ℕ) (l : List A) (i : ℕ) : Type 0 where
+  pub within : i ≤ n
+  pub size : length l ≡ n
+  pub values : take i l ≡ tabulated i f
 
-filled-none : {A : Type 0} (f : ℕ → A) (l : List A) → Filled f l 0
+filled-none : {A : Type 0} (f : ℕ → A) (n : ℕ) (l : List A) → length l ≡ n → Filled f n l 0
 unfolding tabulated
-filled-none f l = refl
+filled-none f n l e = record { within = omega arith; size = e; values = refl }
 
-filled-more : {A : Type 0} (f : ℕ → A) (l : List A) (i : ℕ) (x : A) → i < length l → Filled f l i → x ≡ f i → Filled f (set l i x) (i + 1)
-unfolding tabulated
-filled-more f l i x h e v = rw (add-one, take-suc-set l i x h, e, v)
+module _ {A : Type 0} {f : ℕ → A} {n : ℕ} {l : List A} {i : ℕ} (p : Filled f n l i) where
+  filled-more : (x : A) → i < n → x ≡ f i → Filled f n (set l i x) (i + 1)
+  unfolding tabulated
+  filled-more x h e =
+      let g : i < length l = omega (arith, p .size) in
+      let values : take (i + 1) (set l i x) ≡ tabulated (i + 1) f = rw (add-one, take-suc-set l i x g, p .values, e) in
+      record { within = omega arith; size = length-set l i x ∙ p .size; values = values }
 
-filled-all : {A : Type 0} (f : ℕ → A) (l : List A) (i n : ℕ) → length l ≡ n → i ≡ n → Filled f l i → l ≡ tabulated n f
-filled-all f l i n size e p = sym (take-all n l (omega arith)) ∙ rw e at p
+  filled-all : n ≤ i → l ≡ tabulated n f
+  filled-all h =
+      let e : i ≡ n = omega (arith, p .within) in
+      sym (take-all n l (omega (arith, p .size))) ∙ rw e at (p .values)
 
 -- ---- a state
 
@@ -53,72 +65,33 @@ sourceOf b i = sourceFrom b (sourcesFrom + sourceSize * i)
 abbrev pub coreOf : List ℕ → ℕ → Core
 coreOf b k = coreFrom b (coresFrom + coreSize * k)
 
+-- s has the sizes, the first i sources and the first k cores that b encodes
+pub record Read (b : List ℕ) (s : Controller) (i k : ℕ) : Type 0 where
+  pub n : s .n ≡ wordAt b 0
+  pub m : s .m ≡ wordAt b 2
+  pub sources : Filled (sourceOf b) maxSources (s .sources) i
+  pub cores : Filled (coreOf b) maxCores (s .cores) k
+
 module _ (b : List ℕ) where
-  -- where the first loop stands at source i, and the second at core k
-  pub record SourcesRead (s : Controller) (i : ℕ) : Type 0 where
-    pub n : s .n ≡ wordAt b 0
-    pub m : s .m ≡ wordAt b 2
-    pub within : i ≤ maxSources
-    pub sources-size : length (s .sources) ≡ maxSources
-    pub cores-size : length (s .cores) ≡ maxCores
-    pub sources : Filled (sourceOf b) (s .sources) i
-
-  pub record CoresRead (s : Controller) (k : ℕ) : Type 0 where
-    pub n : s .n ≡ wordAt b 0
-    pub m : s .m ≡ wordAt b 2
-    pub within : k ≤ maxCores
-    pub cores-size : length (s .cores) ≡ maxCores
-    pub sources : s .sources ≡ tabulated maxSources (sourceOf b)
-    pub cores : Filled (coreOf b) (s .cores) k
-
-  pub sources-start : (n m : ℕ) (s : Controller) → n ≡ wordAt b 0 → m ≡ wordAt b 2 → s ≡ reset n m → SourcesRead s 0
-  sources-start n m s en em e =
+  pub read-none : (n m : ℕ) (s : Controller) → n ≡ wordAt b 0 → m ≡ wordAt b 2 → s ≡ reset n m → Read b s 0 0
+  read-none n m s en em e =
       record {
         n = ap (λ (x : Controller). x .n) e ∙ en;
         m = ap (λ (x : Controller). x .m) e ∙ em;
-        within = omega arith;
-        sources-size = ap (λ (x : Controller). length (x .sources)) e;
-        cores-size = ap (λ (x : Controller). length (x .cores)) e;
-        sources = filled-none (sourceOf b) (s .sources);
+        sources = filled-none (sourceOf b) maxSources (s .sources) (ap (λ (x : Controller). length (x .sources)) e);
+        cores = filled-none (coreOf b) maxCores (s .cores) (ap (λ (x : Controller). length (x .cores)) e);
       }
 
-  pub sources-turn :
-      (s : Controller) (i : ℕ) (r : Source) → SourcesRead s i → i < maxSources → r ≡ sourceOf b i → SourcesRead (withSource s i r) (i + 1)
-  sources-turn s i r p h e =
-      record {
-        n = p .n;
-        m = p .m;
-        within = omega arith;
-        sources-size = length-set (s .sources) i r ∙ p .sources-size;
-        cores-size = p .cores-size;
-        sources = filled-more (sourceOf b) (s .sources) i r (omega (arith, p .sources-size)) (p .sources) e;
-      }
+  module _ (s : Controller) (i k : ℕ) (p : Read b s i k) where
+    pub source-more : (r : Source) → i < maxSources → r ≡ sourceOf b i → Read b (withSource s i r) (i + 1) k
+    source-more r h e = record { n = p .n; m = p .m; sources = filled-more (p .sources) r h e; cores = p .cores }
 
-  pub cores-start : (s : Controller) (i : ℕ) → SourcesRead s i → maxSources ≤ i → CoresRead s 0
-  cores-start s i p h =
-      record {
-        n = p .n;
-        m = p .m;
-        within = omega arith;
-        cores-size = p .cores-size;
-        sources = filled-all (sourceOf b) (s .sources) i maxSources (p .sources-size) (omega (arith, p .within)) (p .sources);
-        cores = filled-none (coreOf b) (s .cores);
-      }
+    pub core-more : (r : Core) → k < maxCores → r ≡ coreOf b k → Read b (withCore s k r) i (k + 1)
+    core-more r h e = record { n = p .n; m = p .m; sources = p .sources; cores = filled-more (p .cores) r h e }
 
-  pub cores-turn : (s : Controller) (k : ℕ) (r : Core) → CoresRead s k → k < maxCores → r ≡ coreOf b k → CoresRead (withCore s k r) (k + 1)
-  cores-turn s k r p h e =
-      record {
-        n = p .n;
-        m = p .m;
-        within = omega arith;
-        cores-size = length-set (s .cores) k r ∙ p .cores-size;
-        sources = p .sources;
-        cores = filled-more (coreOf b) (s .cores) k r (omega (arith, p .cores-size)) (p .cores) e;
-      }
-
-  pub all-read : (s : Controller) (k : ℕ) → CoresRead s k → maxCores ≤ k → s ≡ stateFrom b
-  unfolding stateFrom
-  all-read s k p h =
-      let cores : s .cores ≡ tabulated maxCores (coreOf b)
-      = filled-all (coreOf b) (s .cores) k maxCores (p .cores-size) (omega (arith, p .within)) (p .cores) in
-      λ t. record { n = p .n t; m = p .m t; sources = p .sources t; cores = cores t }
+    pub all-read : maxSources ≤ i → maxCores ≤ k → s ≡ stateFrom b
+    unfolding stateFrom
+    all-read h g =
+        let sources : s .sources ≡ tabulated maxSources (sourceOf b) = filled-all (p .sources) h in
+        let cores : s .cores ≡ tabulated maxCores (coreOf b) = filled-all (p .cores) g in
+        λ t. record { n = p .n t; m = p .m t; sources = sources t; cores = cores t }

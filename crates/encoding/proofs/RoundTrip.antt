@@ -19,7 +19,7 @@ use Rattle.encoding.proofs.Flags.{sourceFlagsOf, coreFlagsOf}
 use Rattle.encoding.proofs.Reading.{sourceOf, coreOf}
 use Rattle.encoding.proofs.Octets.{state-bytes, byte}
 use Rattle.encoding.proofs.Records.{word-back, source-back, source-flagged, core-back, core-flagged, word-part, source-part, core-part}
-use Rattle.encoding.proofs.Rows.{length-joined, drop-joined, tabulated-all, joined-tabulated}
+use Rattle.encoding.proofs.Rows.{length-joined, record-at, tabulated-all, joined-tabulated}
 
 -- ---- a state there and back
 
@@ -35,32 +35,26 @@ module _ (s : Controller) (sized : Sized s) where
   state-length = rw (length-append (joined sourceBytes (s .sources)) (joined coreBytes (s .cores)), sources-length, cores-length)
 
   -- what stands where source i and core k begin
-  module _ (i : ℕ) (h : i < maxSources) where
-    behind-source : List ℕ
-    behind-source = joined sourceBytes (drop (suc i) (s .sources)) ++ joined coreBytes (s .cores)
+  source-there :
+      (i : ℕ) → i < maxSources →
+      drop (sourcesFrom + sourceSize * i) (stateBytes s)
+      ≡ sourceBytes (sourceAt s i) ++ (joined sourceBytes (drop (suc i) (s .sources)) ++ joined coreBytes (s .cores))
+  unfolding stateBytes
+  source-there i h =
+      record-at sourceBytes sourceSize (λ r. refl) (stateBytes s) sourcesFrom (s .sources) (joined coreBytes (s .cores)) i noSource refl
+      (omega (arith, sized .sources))
 
-    source-there : drop (sourcesFrom + sourceSize * i) (stateBytes s) ≡ sourceBytes (sourceAt s i) ++ behind-source
-    unfolding stateBytes behind-source
-    source-there =
-        sym (drop-drop (sourceSize * i) sourcesFrom (stateBytes s))
-        ∙ drop-joined sourceBytes sourceSize (λ r. refl) (s .sources) (joined coreBytes (s .cores)) i noSource (omega (arith, sized .sources))
+  cores-there : drop coresFrom (stateBytes s) ≡ joined coreBytes (s .cores) ++ []
+  unfolding stateBytes
+  cores-there =
+      drop-at (joined sourceBytes (s .sources)) (joined coreBytes (s .cores)) (sourceSize * maxSources) sources-length
+      ∙ sym (append-nil (joined coreBytes (s .cores)))
 
-  module _ (k : ℕ) (h : k < maxCores) where
-    behind-core : List ℕ
-    behind-core = joined coreBytes (drop (suc k) (s .cores)) ++ []
-
-    cores-there : drop coresFrom (stateBytes s) ≡ joined coreBytes (s .cores) ++ []
-    unfolding stateBytes
-    cores-there =
-        drop-at (joined sourceBytes (s .sources)) (joined coreBytes (s .cores)) (sourceSize * maxSources) sources-length
-        ∙ sym (append-nil (joined coreBytes (s .cores)))
-
-    core-there : drop (coresFrom + coreSize * k) (stateBytes s) ≡ coreBytes (coreAt s k) ++ behind-core
-    unfolding behind-core
-    core-there =
-        sym (drop-drop (coreSize * k) coresFrom (stateBytes s))
-        ∙ ap (drop (coreSize * k)) cores-there
-        ∙ drop-joined coreBytes coreSize (λ c. refl) (s .cores) [] k noCore (omega (arith, sized .cores))
+  core-there :
+      (k : ℕ) → k < maxCores →
+      drop (coresFrom + coreSize * k) (stateBytes s) ≡ coreBytes (coreAt s k) ++ (joined coreBytes (drop (suc k) (s .cores)) ++ [])
+  core-there k h =
+      record-at coreBytes coreSize (λ c. refl) (stateBytes s) coresFrom (s .cores) [] k noCore cores-there (omega (arith, sized .cores))
 
 pub state-read-back : StateReadBack
 unfolding stateFrom
@@ -78,12 +72,12 @@ state-read-back s sized = λ t. record { n = n t; m = m t; sources = sources t; 
     sources : tabulated maxSources (sourceOf b) ≡ s .sources
     sources =
         tabulated-all maxSources (sourceOf b) (s .sources) noSource (sized .sources)
-        (λ i h. source-back b (behind-source s sized i h) (sourcesFrom + sourceSize * i) (sourceAt s i) (source-there s sized i h))
+        (λ i h. source-back b _ (sourcesFrom + sourceSize * i) (sourceAt s i) (source-there s sized i h))
 
     cores : tabulated maxCores (coreOf b) ≡ s .cores
     cores =
         tabulated-all maxCores (coreOf b) (s .cores) noCore (sized .cores)
-        (λ k h. core-back b (behind-core s sized k h) (coresFrom + coreSize * k) (coreAt s k) (core-there s sized k h))
+        (λ k h. core-back b _ (coresFrom + coreSize * k) (coreAt s k) (core-there s sized k h))
 
 is-encoded : (s : Controller) → Sized s → isState (stateBytes s) ≡ true
 unfolding isState
@@ -96,12 +90,12 @@ is-encoded s sized =
     sources : every maxSources (sourceFlagsOf b) ≡ true
     sources =
         every-in maxSources (sourceFlagsOf b)
-        (λ i h. source-flagged b (behind-source s sized i h) (sourcesFrom + sourceSize * i) (sourceAt s i) (source-there s sized i h))
+        (λ i h. source-flagged b _ (sourcesFrom + sourceSize * i) (sourceAt s i) (source-there s sized i h))
 
     cores : every maxCores (coreFlagsOf b) ≡ true
     cores =
         every-in maxCores (coreFlagsOf b)
-        (λ k h. core-flagged b (behind-core s sized k h) (coresFrom + coreSize * k) (coreAt s k) (core-there s sized k h))
+        (λ k h. core-flagged b _ (coresFrom + coreSize * k) (coreAt s k) (core-there s sized k h))
 
 pub state-encoded : StateEncoded
 state-encoded s sized = (is-encoded s sized, state-bytes s)

@@ -41,7 +41,7 @@ module _ {A : Type 0} (f : A → List ℕ) (w : ℕ) (size : (x : A) → length 
   length-joined (x ∷ l) = rw (length-append (f x) (joined f l), size x, length-joined l, mul-suc) (add-comm w (w * length l))
 
   -- behind i records stands the next one
-  pub drop-joined :
+  drop-joined :
       (l : List A) (rest : List ℕ) (i : ℕ) (d : A) → i < length l →
       drop (w * i) (joined f l ++ rest) ≡ f (getD l i d) ++ (joined f (drop (suc i) l) ++ rest)
   unfolding joined
@@ -50,6 +50,12 @@ module _ {A : Type 0} (f : A → List ℕ) (w : ℕ) (size : (x : A) → length 
   drop-joined (x ∷ l) rest (suc i) d h =
       let e : w * suc i ≡ length (f x) + w * i = mul-suc w i ∙ add-comm (w * i) w ∙ ap (λ (n : ℕ). n + w * i) (sym (size x)) in
       rw (e, append-assoc (f x) (joined f l) rest) (drop-append-add (f x) (joined f l ++ rest) (w * i) ∙ drop-joined l rest i d (le-of-suc-le-suc h))
+
+  -- record i of a row that stands at a place of b
+  pub record-at :
+      (b : List ℕ) (from : ℕ) (l : List A) (rest : List ℕ) (i : ℕ) (d : A) → drop from b ≡ joined f l ++ rest → i < length l →
+      drop (from + w * i) b ≡ f (getD l i d) ++ (joined f (drop (suc i) l) ++ rest)
+  record-at b from l rest i d e h = sym (drop-drop (w * i) from b) ∙ ap (drop (w * i)) e ∙ drop-joined l rest i d h
 
 -- ---- the list of a function's values
 

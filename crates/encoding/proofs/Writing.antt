@@ -1,5 +1,9 @@
 -- Writing bytes: stores one after another are one run of stores, and runs written from the front make up a state's bytes.
 -- Assumes nothing.
+--   word-stores, source-written, core-written, answer-written    one record, from what each store and call leaves
+--   Written, written-none, source-more, core-more                how far a state is written
+--   all-written                                                  past the last source and the last core the bytes are the state's
+--   unmapped                                                     the length of an array field
 use Prim.Native.Nat.{ℕ, _+_, _*_, _<_, _≤_}
 use mathlib.Core.Path.{_≡_, refl, sym, _∙_, ap}
 use mathlib.Core.List.{List, [], _∷_, _++_, map, append-nil, append-assoc}
@@ -7,12 +11,13 @@ use native.Mathlib.Omega.{arith}
 use native.Mathlib.Numerals.{add-one, towards-suc}
 use lib.ListN.{length, set, take, drop, length-append, length-take, length-map}
 use lib.Seq.{sets, sets-eq, length-sets, take-at, take-all}
-use Rattle.encoding.proofs.Rows.{joined-more}
 use Rattle.model.specs.declared.Source.{Source}
 use Rattle.model.specs.declared.Core.{Core}
 use Rattle.model.specs.declared.Controller.{Controller}
 use Rattle.model.specs.Records.{maxSources, maxCores, noSource, noCore, sourceAt, coreAt}
 use Rattle.model.specs.Bytes.{word, flagByte, sourceSize, coreSize, stateSize, sourcesFrom, coresFrom, sourceBytes, coreBytes, joined, stateBytes}
+use Rattle.encoding.specs.Statements.{Sized}
+use Rattle.encoding.proofs.Rows.{joined-more}
 
 module _ (b : List ℕ) (i : ℕ) where
   pub word-stores : (x y : ℕ) → set (set b i x) (i + 1) y ≡ sets b i (x ∷ y ∷ [])
@@ -57,104 +62,79 @@ front-more :
 front-more b b′ p vs i j e ej h ep =
     rw (e, ej) (take-sets b vs i (omega arith) ∙ ap (λ (l : List ℕ). l ++ vs) ep)
 
--- ---- a state, as two loops
+-- ---- a state
 
--- the bytes up to source i and core k
+-- the bytes up to source i and core k, and where they end
 abbrev front : Controller → ℕ → ℕ → List ℕ
 front s i k =
     word (s .n) ++ (word (s .m) ++ (joined sourceBytes (take i (s .sources)) ++ joined coreBytes (take k (s .cores))))
 
+abbrev place : ℕ → ℕ → ℕ
+place i k = sourcesFrom + sourceSize * i + coreSize * k
+
+-- b has a state's length, and begins with the sizes, the first i sources and the first k cores of s
+pub record Written (s : Controller) (b : List ℕ) (i k : ℕ) : Type 0 where
+  pub sized : Sized s
+  pub size : length b ≡ stateSize
+  pub sources-within : i ≤ maxSources
+  pub cores-within : k ≤ maxCores
+  pub bytes : take (place i k) b ≡ front s i k
+
 module _ (s : Controller) where
-  -- where the first loop stands at source i, and the second at core k
-  pub record SourcesWritten (b : List ℕ) (i : ℕ) : Type 0 where
-    pub size : length b ≡ stateSize
-    pub within : i ≤ maxSources
-    pub sources-size : length (s .sources) ≡ maxSources
-    pub cores-size : length (s .cores) ≡ maxCores
-    pub bytes : take (sourcesFrom + sourceSize * i) b ≡ front s i 0
-
-  pub record CoresWritten (b : List ℕ) (k : ℕ) : Type 0 where
-    pub size : length b ≡ stateSize
-    pub within : k ≤ maxCores
-    pub sources-size : length (s .sources) ≡ maxSources
-    pub cores-size : length (s .cores) ≡ maxCores
-    pub bytes : take (coresFrom + coreSize * k) b ≡ front s maxSources k
-
-  front-source : (i : ℕ) → i < length (s .sources) → front s (i + 1) 0 ≡ front s i 0 ++ sourceBytes (sourceAt s i)
+  pub written-none :
+      (b b₁ b₂ : List ℕ) → Sized s → length b ≡ stateSize → b₁ ≡ sets b 0 (word (s .n)) → b₂ ≡ sets b₁ 2 (word (s .m)) →
+      Written s b₂ 0 0
   unfolding joined
-  front-source i h = simp (joined-more sourceBytes (s .sources) i noSource h, append-nil)
-
-  front-core : (i k : ℕ) → k < length (s .cores) → front s i (k + 1) ≡ front s i k ++ coreBytes (coreAt s k)
-  front-core i k h = simp (joined-more coreBytes (s .cores) k noCore h, append-assoc)
-
-  front-all : (i k : ℕ) → length (s .sources) ≡ i → length (s .cores) ≡ k → front s i k ≡ stateBytes s
-  unfolding stateBytes
-  front-all i k ei ek = rw (take-all i (s .sources) (omega arith), take-all k (s .cores) (omega arith))
-
-  pub sources-start :
-      (b b₁ b₂ : List ℕ) → length b ≡ stateSize → length (s .sources) ≡ maxSources → length (s .cores) ≡ maxCores →
-      b₁ ≡ sets b 0 (word (s .n)) → b₂ ≡ sets b₁ 2 (word (s .m)) → SourcesWritten b₂ 0
-  unfolding joined
-  sources-start b b₁ b₂ size ss cs e₁ e₂ =
+  written-none b b₁ b₂ sized size e₁ e₂ =
       let size₁ : length b₁ ≡ stateSize = ap length e₁ ∙ length-sets b 0 (word (s .n)) ∙ size in
+      let first : take 2 b₁ ≡ word (s .n) = front-more b b₁ [] (word (s .n)) 0 2 e₁ refl (omega arith) refl in
       record {
+        sized = sized;
         size = ap length e₂ ∙ length-sets b₁ 2 (word (s .m)) ∙ size₁;
-        within = omega arith;
-        sources-size = ss;
-        cores-size = cs;
-        bytes =
-            front-more b₁ b₂ (word (s .n)) (word (s .m)) 2 4 e₂ refl (omega arith)
-            (front-more b b₁ [] (word (s .n)) 0 2 e₁ refl (omega arith) refl);
+        sources-within = omega arith;
+        cores-within = omega arith;
+        bytes = front-more b₁ b₂ (word (s .n)) (word (s .m)) 2 4 e₂ refl (omega arith) first;
       }
 
-  pub sources-turn :
-      (b b′ : List ℕ) (i : ℕ) → SourcesWritten b i → i < maxSources →
-      b′ ≡ sets b (sourcesFrom + sourceSize * i) (sourceBytes (sourceAt s i)) → SourcesWritten b′ (i + 1)
-  sources-turn b b′ i p h e =
-      let r : List ℕ = sourceBytes (sourceAt s i) in
-      let at : ℕ = sourcesFrom + sourceSize * i in
+  -- the bytes vs of a record, stored right behind the front
+  written-more :
+      (b b′ vs : List ℕ) (at i k i′ k′ : ℕ) → Written s b i k → at ≡ place i k → b′ ≡ sets b at vs →
+      i′ ≤ maxSources → k′ ≤ maxCores → place i′ k′ ≡ at + length vs → front s i′ k′ ≡ front s i k ++ vs → Written s b′ i′ k′
+  written-more b b′ vs at i k i′ k′ p ea e hi hk ej ef =
       record {
-        size = ap length e ∙ length-sets b at r ∙ p .size;
-        within = omega arith;
-        sources-size = p .sources-size;
-        cores-size = p .cores-size;
-        bytes =
-            front-more b b′ (front s i 0) r at (sourcesFrom + sourceSize * (i + 1)) e (omega arith) (omega (arith, p .size)) (p .bytes)
-            ∙ sym (front-source i (omega (arith, p .sources-size)));
+        sized = p .sized;
+        size = ap length e ∙ length-sets b at vs ∙ p .size;
+        sources-within = hi;
+        cores-within = hk;
+        bytes = front-more b b′ (front s i k) vs at (place i′ k′) e ej (omega (arith, p .size)) (rw ea (p .bytes)) ∙ sym ef;
       }
 
-  pub cores-start : (b : List ℕ) (i : ℕ) → SourcesWritten b i → maxSources ≤ i → CoresWritten b 0
-  cores-start b i p h =
-      let e : i ≡ maxSources = omega (arith, p .within) in
-      record {
-        size = p .size;
-        within = omega arith;
-        sources-size = p .sources-size;
-        cores-size = p .cores-size;
-        bytes = rw e at (p .bytes);
-      }
+  pub source-more :
+      (b b′ : List ℕ) (i : ℕ) → Written s b i 0 → i < maxSources →
+      b′ ≡ sets b (sourcesFrom + sourceSize * i) (sourceBytes (sourceAt s i)) → Written s b′ (i + 1) 0
+  unfolding joined
+  source-more b b′ i p h e =
+      let g : i < length (s .sources) = omega (arith, p .sized .sources) in
+      let more = joined-more sourceBytes (s .sources) i noSource g in
+      written-more b b′ (sourceBytes (sourceAt s i)) (sourcesFrom + sourceSize * i) i 0 (i + 1) 0 p (omega arith) e
+      (omega arith) (omega arith) (omega arith) (simp (more, append-nil))
 
-  pub cores-turn :
-      (b b′ : List ℕ) (k : ℕ) → CoresWritten b k → k < maxCores →
-      b′ ≡ sets b (coresFrom + coreSize * k) (coreBytes (coreAt s k)) → CoresWritten b′ (k + 1)
-  cores-turn b b′ k p h e =
-      let r : List ℕ = coreBytes (coreAt s k) in
-      let at : ℕ = coresFrom + coreSize * k in
-      record {
-        size = ap length e ∙ length-sets b at r ∙ p .size;
-        within = omega arith;
-        sources-size = p .sources-size;
-        cores-size = p .cores-size;
-        bytes =
-            front-more b b′ (front s maxSources k) r at (coresFrom + coreSize * (k + 1)) e (omega arith) (omega (arith, p .size)) (p .bytes)
-            ∙ sym (front-core maxSources k (omega (arith, p .cores-size)));
-      }
+  pub core-more :
+      (b b′ : List ℕ) (i k : ℕ) → Written s b i k → maxSources ≤ i → k < maxCores →
+      b′ ≡ sets b (coresFrom + coreSize * k) (coreBytes (coreAt s k)) → Written s b′ i (k + 1)
+  core-more b b′ i k p h g e =
+      let q : k < length (s .cores) = omega (arith, p .sized .cores) in
+      let more = joined-more coreBytes (s .cores) k noCore q in
+      written-more b b′ (coreBytes (coreAt s k)) (coresFrom + coreSize * k) i k i (k + 1) p (omega (arith, p .sources-within)) e
+      (p .sources-within) (omega arith) (omega arith) (simp (more, append-assoc))
 
-  pub all-written : (b : List ℕ) (k : ℕ) → CoresWritten b k → maxCores ≤ k → b ≡ stateBytes s
-  all-written b k p h =
-      let e : k ≡ maxCores = omega (arith, p .within) in
-      let bytes : take stateSize b ≡ front s maxSources maxCores = rw e at (p .bytes) in
-      sym (take-all stateSize b (omega (arith, p .size))) ∙ bytes ∙ front-all maxSources maxCores (p .sources-size) (p .cores-size)
+  pub all-written : (b : List ℕ) (i k : ℕ) → Written s b i k → maxSources ≤ i → maxCores ≤ k → b ≡ stateBytes s
+  unfolding stateBytes
+  all-written b i k p h g =
+      let whole : length b ≤ place i k = omega (arith, p .size) in
+      let sources : take i (s .sources) ≡ s .sources = take-all i (s .sources) (omega (arith, p .sized .sources)) in
+      let cores : take k (s .cores) ≡ s .cores = take-all k (s .cores) (omega (arith, p .sized .cores)) in
+      sym (take-all (place i k) b whole) ∙ p .bytes ∙ rw (sources, cores)
 
 -- what is known of an array field is the length of its elements' values
 pub unmapped : {A B : Type 0} (f : A → B) (l : List A) (n : ℕ) → length (map f l) ≡ n → length l ≡ n

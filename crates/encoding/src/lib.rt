@@ -26,6 +26,8 @@ pub const STATE_SIZE: usize = 1156;
 
 // ---- reading
 
+// The word at i, its lower byte first.
+// Rules out: the upper byte first (`word_read_upper_first`); an upper byte that counts 255 (`word_read_by_255`).
 pub fn word_at(b: &[u8], i: usize) -> u16
     requires { ⌜ i + 1 < length (now b) ⌝ }
     ensures { λ r. ⌜ r ≡ wordAt (now (b .entry)) i ⌝ }
@@ -35,6 +37,7 @@ pub fn word_at(b: &[u8], i: usize) -> u16
     low + 256 * high
 }
 
+// The source whose bytes begin at i.
 fn source_from(b: &[u8], i: usize) -> Source
     requires { ⌜ i + sourceSize ≤ length (now b) ⌝ }
     ensures { λ r. ⌜ r ≡ sourceFrom (now (b .entry)) i ⌝ }
@@ -48,6 +51,8 @@ fn source_from(b: &[u8], i: usize) -> Source
     )
 }
 
+// The core whose bytes begin at i.
+// Rules out: the box's source and priority in each other's place (`source_and_priority_swapped`).
 fn core_from(b: &[u8], i: usize) -> Core
     requires { ⌜ i + coreSize ≤ length (now b) ⌝ }
     ensures { λ r. ⌜ r ≡ coreFrom (now (b .entry)) i ⌝ }
@@ -60,6 +65,7 @@ fn core_from(b: &[u8], i: usize) -> Core
 }
 
 // The state that the bytes encode.
+// Rules out: n and m in each other's place (`sizes_read_swapped`); the last core left unread (`one_core_too_few_read`).
 pub fn state_from(b: &[u8]) -> Controller
     requires { ⌜ length (now b) ≡ stateSize ⌝ }
     ensures { λ r. ⌜ r ≡ stateFrom (now (b .entry)) ⌝ }
@@ -79,6 +85,7 @@ pub fn state_from(b: &[u8]) -> Controller
 }
 
 // Whether the three flags of the source at i are flags.
+// Rules out: a byte 2 taken for a flag (`flag_of_two_accepted`).
 fn source_flags(b: &[u8], i: usize) -> bool
     requires { ⌜ i + sourceSize ≤ length (now b) ⌝ }
     ensures { λ r. ⌜ r ≡ sourceFlags (now (b .entry)) i ⌝ }
@@ -104,6 +111,7 @@ fn core_flags(b: &[u8], i: usize) -> bool
 }
 
 // Whether the bytes encode a state: the length is right, and each flag is 0 or 1.
+// Rules out: a byte too few (`one_byte_too_few_accepted`); the last core left untested (`last_core_untested`).
 pub fn is_state(b: &[u8]) -> bool
     ensures { λ r. ⌜ r ≡ isState (now (b .entry)) ⌝ }
 {
@@ -129,6 +137,7 @@ pub fn is_state(b: &[u8]) -> bool
 
 // ---- writing
 
+// Rules out: the upper byte first (`word_written_upper_first`).
 fn put_word(b: &mut [u8], i: usize, x: u16)
     requires { ⌜ i + 1 < length (now b) ⌝ }
     ensures { λ r. ⌜ now (b .exit) ≡ sets (now (b .entry)) i (word x) ⌝ }
@@ -143,6 +152,7 @@ fn flag_byte(x: bool) -> u8
     if x { 1 } else { 0 }
 }
 
+// Rules out: two flags in each other's place (`flags_written_swapped`).
 fn put_source(b: &mut [u8], i: usize, r: Source)
     requires { ⌜ i + sourceSize ≤ length (now b) ⌝ }
     ensures { λ x. ⌜ now (b .exit) ≡ sets (now (b .entry)) i (sourceBytes r) ⌝ }
@@ -154,6 +164,7 @@ fn put_source(b: &mut [u8], i: usize, r: Source)
     put_word(b, i + 5, r.priority);
 }
 
+// Rules out: a byte left unwritten (`last_byte_unwritten`).
 fn put_core(b: &mut [u8], i: usize, c: Core)
     requires { ⌜ i + coreSize ≤ length (now b) ⌝ }
     ensures { λ x. ⌜ now (b .exit) ≡ sets (now (b .entry)) i (coreBytes c) ⌝ }
@@ -166,6 +177,7 @@ fn put_core(b: &mut [u8], i: usize, c: Core)
 }
 
 // The state's bytes, written over a buffer of just their length.
+// Rules out: n and m in each other's place (`sizes_written_swapped`); the last source left unwritten (`one_source_too_few`).
 pub fn put_state(b: &mut [u8], s: Controller)
     requires { ⌜ length (now b) ≡ stateSize ⌝ }
     ensures { λ r. ⌜ now (b .exit) ≡ stateBytes s ⌝ }
@@ -189,6 +201,7 @@ pub fn put_state(b: &mut [u8], s: Controller)
 }
 
 // Number, id and cycles of an answer.
+// Rules out: id and cycles in each other's place (`id_and_cycles_swapped`); the id over the number (`id_over_number`).
 pub fn put_answer(b: &mut [u8], i: usize, number: u8, id: SourceId, cycles: u16)
     requires { ⌜ i + answerSize ≤ length (now b) ⌝ }
     ensures { λ r. ⌜ now (b .exit) ≡ sets (now (b .entry)) i (number ∷ (word (id .0) ++ word cycles)) ⌝ }

@@ -27,6 +27,17 @@ left list i = commandsIn (drop i list)
 abbrev answersFrom : Controller → List Command → List ℕ
 answersFrom s cs = joined answerBytes (answersTo s cs)
 
+-- an answer written at i, and behind it those to the rest, are the answers from i on
+answers-more :
+    (answers answers′ : List ℕ) (s : Controller) (i : ℕ) (c : Command) (a : Answer) (rest : List Command) →
+    a ≡ execute s c → answers′ ≡ sets answers i (answerBytes a) →
+    sets answers′ (i + commandSize) (answersFrom (a .state) rest) ≡ sets answers i (answersFrom s (c ∷ rest))
+unfolding answersTo joined
+answers-more answers answers′ s i c a rest ea e =
+    ap (λ (b : List ℕ). sets b (i + commandSize) (answersFrom (a .state) rest)) e
+    ∙ sets-append answers i (i + commandSize) (answerBytes a) (answersFrom (a .state) rest) refl
+    ∙ ap (λ (x : Answer). sets answers i (answerBytes x ++ answersFrom (x .state) rest)) ea
+
 module _ (list answers₀ : List ℕ) (s₀ : Controller) where
   pub record Taken (answers : List ℕ) (s : Controller) (i : ℕ) : Type 0 where
     pub within : i ≤ length list
@@ -61,7 +72,7 @@ module _ (list answers₀ : List ℕ) (s₀ : Controller) where
       Taken answers s i → i < length list → getD list i 0 ≤ 7 →
       c ≡ commandAt list i → a ≡ execute s c → answers′ ≡ sets answers i (answerBytes a) →
       Taken answers′ (a .state) (i + commandSize)
-  unfolding run answersTo joined
+  unfolding run
   taken-more answers answers′ s i c a t h k ec ea e =
       let next : i + commandSize ≤ length list = more-left answers s i t h in
       let rest = left list (i + commandSize) in
@@ -76,10 +87,7 @@ module _ (list answers₀ : List ℕ) (s₀ : Controller) where
         counts = omega (arith, ap length commands, t .counts);
         runs = ap (λ (x : Answer). run (x .state) rest) ea ∙ ap (run s) (sym commands) ∙ t .runs;
         written =
-            ap (λ (b : List ℕ). sets b (i + commandSize) (answersFrom (a .state) rest)) e
-            ∙ sets-append answers i (i + commandSize) (answerBytes a) (answersFrom (a .state) rest) refl
-            ∙ ap (λ (x : Answer). sets answers i (answerBytes x ++ answersFrom (x .state) rest)) ea
-            ∙ ap (λ (cs : List Command). sets answers i (answersFrom s cs)) (sym commands)
+            answers-more answers answers′ s i c a rest ea e ∙ ap (λ (cs : List Command). sets answers i (answersFrom s cs)) (sym commands)
             ∙ t .written;
       }
 

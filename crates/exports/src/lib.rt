@@ -1,6 +1,6 @@
 // The calls for hosts in C and Rust. Each is proved to write what its definition in model/specs/Bytes.antt says and nothing else,
-// on any bytes whatever. Unreadable bytes and short buffers are answered by 255, or by 2^64 - 1 where the answer is a count, and
-// leave every buffer as it was.
+// on any bytes whatever. Unreadable bytes and buffers that do not fit are answered by 255, or by 2^64 - 1 where the answer is a count,
+// and leave every buffer as it was.
 ghost use Prim.Native.Nat.{_+_, _*_};
 ghost use mathlib.Core.Path.{_≡_};
 ghost use Rattle.model.specs.Bytes.{makeCall, executeCall, runCall};
@@ -11,7 +11,7 @@ const UNREADABLE: u64 = 255;
 const NO_COUNT: u64 = 18446744073709551615;
 
 // Number, id and cycles in 8, 16 and 16 binary digits, the number lowest.
-// Rules out: id and cycles in each other's place (`id_and_cycles_swapped`).
+// Rules out: id and cycles in each other's place (`id_and_cycles_swapped`); an id that begins inside the number (`number_overlapped`).
 fn packed(number: u8, id: SourceId, cycles: u16) -> u64
     ensures { λ r. ⌜ r ≡ number + 256 * (id .0 + 65536 * cycles) ⌝ }
 {
@@ -57,7 +57,8 @@ pub extern "C" fn psic_execute(state: &mut [u8], number: u16, at: u16, priority:
 // A list of commands, 5 bytes each, from the state that the bytes encode; an answer of 5 bytes for each. A command with a number
 // above 7 ends the run: the count says how many were taken.
 // Rules out: a number 8 taken for a command (`eight_run`); a cut end (`cut_end_run`); answers written over one another
-// (`answers_at_front`) or past their buffer (`byte_per_answer`); one command too many counted (`count_one_more`).
+// (`answers_at_front`) or past their buffer (`byte_per_answer`); a refusal answered as a success (`list_number_dropped`); a count of
+// bytes (`bytes_counted`) or of commands that were not taken (`whole_list_counted`).
 #[no_mangle]
 pub extern "C" fn psic_run(state: &mut [u8], list: &[u8], answers: &mut [u8]) -> u64
     ensures { λ r. ⌜ (r ≡ (runCall (now (state .entry)) (now (list .entry)) (now (answers .entry))) .result) × (now (state .exit) ≡ (runCall (now (state .entry)) (now (list .entry)) (now (answers .entry))) .bytes) × (now (answers .exit) ≡ (runCall (now (state .entry)) (now (list .entry)) (now (answers .entry))) .answers) ⌝ }

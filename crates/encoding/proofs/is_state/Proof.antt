@@ -1,19 +1,21 @@
--- `encoding::is_state` meets its contract: each loop keeps that the flags of the records passed are flags. Assumes nothing.
+-- `encoding::is_state` meets its contract: both loops keep `Passed`, that the flags of the records passed are flags. Assumes nothing.
 use Prim.Native.Nat.{_-_}
+use mathlib.Core.Path.{sym, _∙_}
 use native.Mathlib.Omega.{arith}
+use borrow.Author.Tests.{not-true, not-false}
 use Rattle.model.specs.Records.{maxSources, maxCores}
-use Rattle.encoding.proofs.Flags.{SourcesPassed, CoresPassed, wrong-size, no-source-flags, no-core-flags, sources-start, sources-turn, cores-start, cores-turn, all-flags}
+use Rattle.encoding.proofs.Flags.{Passed, wrong-size, no-source-flags, no-core-flags, passed-none, source-passed, core-passed, all-passed}
 use Rattle.encoding.proofs.is_state.Statement.{statement}
 use Rattle.encoding.proofs.is_state.Tie as tie
 
 abbrev Inv-loop : tie.InvT-loop
-Inv-loop b i₀ i = SourcesPassed b i
+Inv-loop b i₀ i = Passed b i 0
 
 abbrev μ-loop : tie.MeasureT-loop
 μ-loop b i₀ i = maxSources - i
 
 abbrev Inv-loop2 : tie.InvT-loop2
-Inv-loop2 b i k₀ k = CoresPassed b k
+Inv-loop2 b i k₀ k = Passed b i k
 
 abbrev μ-loop2 : tie.MeasureT-loop2
 μ-loop2 b i k₀ k = maxCores - k
@@ -22,7 +24,7 @@ returns : tie.Need-returns Inv-loop μ-loop Inv-loop2 μ-loop2
 returns c = wrong-size (c .before .before .args .b .now) (c .if1 .taken)
 
 loop-holds : tie.Need-loop-holds Inv-loop μ-loop Inv-loop2 μ-loop2
-loop-holds c = sources-start (c .before .before .args .b .now) (c .if1 .left)
+loop-holds c = passed-none (c .before .before .args .b .now) (c .if1 .left)
 
 mul-source-flags : tie.Need-mul-source-flags Inv-loop μ-loop Inv-loop2 μ-loop2
 mul-source-flags c = omega arith
@@ -34,7 +36,10 @@ source-flags-requires : tie.Need-source-flags-requires Inv-loop μ-loop Inv-loop
 source-flags-requires c κs = omega arith
 
 returns-2 : tie.Need-returns-2 Inv-loop μ-loop Inv-loop2 μ-loop2
-returns-2 c = no-source-flags (c .before .before .before .before .before .before .args .b .now) (c .before .before .before .loop .passed) (c .before .source-flags .result) (omega arith) (c .before .source-flags .ensures) (c .if2 .taken)
+returns-2 c =
+    let tested = c .before .source-flags in
+    no-source-flags (c .before .before .before .before .before .before .args .b .now) (c .before .before .before .loop .passed) (omega arith)
+    (sym (tested .ensures) ∙ not-true (tested .result) (c .if2 .taken))
 
 add-passed : tie.Need-add-passed Inv-loop μ-loop Inv-loop2 μ-loop2
 add-passed c = omega arith
@@ -43,10 +48,14 @@ loop-less : tie.Need-loop-less Inv-loop μ-loop Inv-loop2 μ-loop2
 loop-less c = omega arith
 
 loop-again : tie.Need-loop-again Inv-loop μ-loop Inv-loop2 μ-loop2
-loop-again c = sources-turn (c .before .before .before .before .before .before .args .b .now) (c .before .before .before .loop .passed) (c .before .source-flags .result) (c .before .before .before .loop .inv) (omega arith) (c .before .source-flags .ensures) (c .if2 .left)
+loop-again c =
+    let l = c .before .before .before .loop in
+    let tested = c .before .source-flags in
+    source-passed (c .before .before .before .before .before .before .args .b .now) (l .passed) 0 (l .inv) (omega arith)
+    (sym (tested .ensures) ∙ not-false (tested .result) (c .if2 .left))
 
 loop2-holds : tie.Need-loop2-holds Inv-loop μ-loop Inv-loop2 μ-loop2
-loop2-holds c = cores-start (c .before .before .before .before .args .b .now) (c .before .loop .passed) (c .before .loop .inv) (c .loop-test .left)
+loop2-holds c = c .before .loop .inv
 
 mul-core-flags : tie.Need-mul-core-flags Inv-loop μ-loop Inv-loop2 μ-loop2
 mul-core-flags c = omega arith
@@ -58,7 +67,10 @@ core-flags-requires : tie.Need-core-flags-requires Inv-loop μ-loop Inv-loop2 μ
 core-flags-requires c κs = omega arith
 
 returns-3 : tie.Need-returns-3 Inv-loop μ-loop Inv-loop2 μ-loop2
-returns-3 c = no-core-flags (c .before .before .before .before .before .before .before .before .args .b .now) (c .before .before .before .loop2 .cores-passed) (c .before .core-flags .result) (omega arith) (c .before .core-flags .ensures) (c .if3 .taken)
+returns-3 c =
+    let tested = c .before .core-flags in
+    no-core-flags (c .before .before .before .before .before .before .before .before .args .b .now)
+    (c .before .before .before .loop2 .cores-passed) (omega arith) (sym (tested .ensures) ∙ not-true (tested .result) (c .if3 .taken))
 
 add-cores-passed : tie.Need-add-cores-passed Inv-loop μ-loop Inv-loop2 μ-loop2
 add-cores-passed c = omega arith
@@ -67,10 +79,18 @@ loop2-less : tie.Need-loop2-less Inv-loop μ-loop Inv-loop2 μ-loop2
 loop2-less c = omega arith
 
 loop2-again : tie.Need-loop2-again Inv-loop μ-loop Inv-loop2 μ-loop2
-loop2-again c = cores-turn (c .before .before .before .before .before .before .before .before .args .b .now) (c .before .before .before .loop2 .cores-passed) (c .before .core-flags .result) (c .before .before .before .loop2 .inv) (omega arith) (c .before .core-flags .ensures) (c .if3 .left)
+loop2-again c =
+    let l = c .before .before .before .loop2 in
+    let tested = c .before .core-flags in
+    core-passed (c .before .before .before .before .before .before .before .before .args .b .now)
+    (c .before .before .before .before .before .loop .passed) (l .cores-passed) (l .inv) (omega arith)
+    (sym (tested .ensures) ∙ not-false (tested .result) (c .if3 .left))
 
 returns-4 : tie.Need-returns-4 Inv-loop μ-loop Inv-loop2 μ-loop2
-returns-4 c = all-flags (c .before .before .before .before .before .before .args .b .now) (c .before .loop2 .cores-passed) (c .before .loop2 .inv) (c .loop2-test .left)
+returns-4 c =
+    let l = c .before .loop2 in
+    all-passed (c .before .before .before .before .before .before .args .b .now) (c .before .before .before .loop .passed) (l .cores-passed)
+    (l .inv) (c .before .before .loop-test .left) (c .loop2-test .left)
 
 pub is-state-spec : {M : Type 1} → statement M
 is-state-spec =

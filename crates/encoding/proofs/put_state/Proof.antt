@@ -1,22 +1,23 @@
--- `encoding::put_state` meets its contract: each loop keeps that the bytes before it are those of the records passed. Assumes nothing.
+-- `encoding::put_state` meets its contract: both loops keep `Written`, that the bytes so far are those of the records passed.
+-- Assumes nothing.
 use Prim.Native.Nat.{_-_}
 use mathlib.Core.Path.{_≡_}
 use native.Mathlib.Omega.{arith}
 use borrow.Author.Needs.{needs}
 use lib.ListN.{length}
 use Rattle.model.specs.Records.{maxSources, maxCores}
-use Rattle.encoding.proofs.Writing.{SourcesWritten, CoresWritten, sources-start, sources-turn, cores-start, cores-turn, all-written, unmapped}
+use Rattle.encoding.proofs.Writing.{Written, written-none, source-more, core-more, all-written, unmapped}
 use Rattle.encoding.proofs.put_state.Statement.{statement}
 use Rattle.encoding.proofs.put_state.Tie as tie
 
 abbrev Inv-loop : tie.InvT-loop
-Inv-loop b₀ s i₀ b i = SourcesWritten s b i
+Inv-loop b₀ s i₀ b i = Written s b i 0
 
 abbrev μ-loop : tie.MeasureT-loop
 μ-loop b₀ s i₀ b i = maxSources - i
 
 abbrev Inv-loop2 : tie.InvT-loop2
-Inv-loop2 b₀ s i k₀ b k = CoresWritten s b k
+Inv-loop2 b₀ s i k₀ b k = Written s b i k
 
 abbrev μ-loop2 : tie.MeasureT-loop2
 μ-loop2 b₀ s i k₀ b k = maxCores - k
@@ -29,12 +30,14 @@ put-word-requires-2 c κs = omega arith
 
 loop-holds : tie.Need-loop-holds Inv-loop μ-loop Inv-loop2 μ-loop2
 loop-holds c =
-    let a = c .before .before .before .before .before .before .before .before .before .args in
+    let start = c .before .before .before .before .before .before .before .before .before in
+    let a = start .args in
     let sources : length (a .t2 .sources) ≡ maxSources = search (needs, unmapped) in
     let cores : length (a .t2 .cores) ≡ maxCores = search (needs, unmapped) in
     let word-1 = c .before .before .before .before .before .before .put-word in
     let word-2 = c .before .before .put-word2 in
-    sources-start (a .t2) (a .b .now) (word-1 .last .0) (word-2 .last .0) (c .before .before .before .before .before .before .before .before .before .pre) sources cores (word-1 .ensures) (word-2 .ensures)
+    written-none (a .t2) (a .b .now) (word-1 .last .0) (word-2 .last .0) (record { sources = sources; cores = cores }) (start .pre)
+    (word-1 .ensures) (word-2 .ensures)
 
 mul-put-source : tie.Need-mul-put-source Inv-loop μ-loop Inv-loop2 μ-loop2
 mul-put-source c = omega arith
@@ -62,12 +65,11 @@ loop-again : tie.Need-loop-again Inv-loop μ-loop Inv-loop2 μ-loop2
 loop-again c =
     let at = c .before .before .before .before .before .before .loop in
     let put = c .before .before .put-source in
-    sources-turn (c .before .before .before .before .before .before .before .before .before .before .before .before .before .before .before .before .args .t2) (at .b) (put .last .0) (at .written) (at .inv) (omega arith) (put .ensures)
+    source-more (c .before .before .before .before .before .before .before .before .before .before .before .before .before .before .before .before .args .t2)
+    (at .b) (put .last .0) (at .written) (at .inv) (omega arith) (put .ensures)
 
 loop2-holds : tie.Need-loop2-holds Inv-loop μ-loop Inv-loop2 μ-loop2
-loop2-holds c =
-    let at = c .before .loop in
-    cores-start (c .before .before .before .before .before .before .before .before .before .before .before .args .t2) (at .b) (at .written) (at .inv) (c .loop-test .left)
+loop2-holds c = c .before .loop .inv
 
 mul-put-core : tie.Need-mul-put-core Inv-loop μ-loop Inv-loop2 μ-loop2
 mul-put-core c = omega arith
@@ -94,7 +96,9 @@ loop2-again : tie.Need-loop2-again Inv-loop μ-loop Inv-loop2 μ-loop2
 loop2-again c =
     let at = c .before .before .before .before .before .before .loop2 in
     let put = c .before .before .put-core in
-    cores-turn (c .before .before .before .before .before .before .before .before .before .before .before .before .before .before .before .before .before .before .args .t2) (at .b) (put .last .0) (at .cores-written) (at .inv) (omega arith) (put .ensures)
+    core-more (c .before .before .before .before .before .before .before .before .before .before .before .before .before .before .before .before .before .before .args .t2)
+    (at .b) (put .last .0) (c .before .before .before .before .before .before .before .before .loop .written) (at .cores-written) (at .inv)
+    (omega arith) (omega arith) (put .ensures)
 
 same-length : tie.Need-same-length Inv-loop μ-loop Inv-loop2 μ-loop2
 same-length c = omega arith
@@ -102,7 +106,8 @@ same-length c = omega arith
 returns : tie.Need-returns Inv-loop μ-loop Inv-loop2 μ-loop2
 returns c =
     let at = c .before .loop2 in
-    all-written (c .before .before .before .before .before .before .before .before .before .before .before .before .before .args .t2) (at .b) (at .cores-written) (at .inv) (c .loop2-test .left)
+    all-written (c .before .before .before .before .before .before .before .before .before .before .before .before .before .args .t2)
+    (at .b) (c .before .before .before .loop .written) (at .cores-written) (at .inv) (c .before .before .loop-test .left) (c .loop2-test .left)
 
 pub put-state-spec : {M : Type 1} → statement M
 put-state-spec =

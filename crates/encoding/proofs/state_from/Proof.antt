@@ -1,20 +1,21 @@
--- `encoding::state_from` meets its contract: each loop keeps that the records passed are those that the bytes encode. Assumes nothing.
+-- `encoding::state_from` meets its contract: both loops keep `Read`, that the records passed are those that the bytes encode.
+-- Assumes nothing.
 use Prim.Native.Nat.{_-_}
 use native.Mathlib.Omega.{arith}
 use borrow.Author.Needs.{needs}
 use Rattle.model.specs.Records.{maxSources, maxCores}
-use Rattle.encoding.proofs.Reading.{SourcesRead, CoresRead, sources-start, sources-turn, cores-start, cores-turn, all-read}
+use Rattle.encoding.proofs.Reading.{Read, read-none, source-more, core-more, all-read}
 use Rattle.encoding.proofs.state_from.Statement.{statement}
 use Rattle.encoding.proofs.state_from.Tie as tie
 
 abbrev Inv-loop : tie.InvT-loop
-Inv-loop b s₀ i₀ s i = SourcesRead b s i
+Inv-loop b s₀ i₀ s i = Read b s i 0
 
 abbrev μ-loop : tie.MeasureT-loop
 μ-loop b s₀ i₀ s i = maxSources - i
 
 abbrev Inv-loop2 : tie.InvT-loop2
-Inv-loop2 b s₀ i k₀ s k = CoresRead b s k
+Inv-loop2 b s₀ i k₀ s k = Read b s i k
 
 abbrev μ-loop2 : tie.MeasureT-loop2
 μ-loop2 b s₀ i k₀ s k = maxCores - k
@@ -29,7 +30,11 @@ reset-requires : tie.Need-reset-requires Inv-loop μ-loop Inv-loop2 μ-loop2
 reset-requires c κs = search needs
 
 loop-holds : tie.Need-loop-holds Inv-loop μ-loop Inv-loop2 μ-loop2
-loop-holds c = sources-start (c .before .before .before .before .args .b .now) (c .before .before .word-at .result) (c .before .word-at2 .result) (c .reset .result) (c .before .before .word-at .ensures) (c .before .word-at2 .ensures) (c .reset .ensures)
+loop-holds c =
+    let n = c .before .before .word-at in
+    let m = c .before .word-at2 in
+    read-none (c .before .before .before .before .args .b .now) (n .result) (m .result) (c .reset .result) (n .ensures) (m .ensures)
+    (c .reset .ensures)
 
 mul-source-from : tie.Need-mul-source-from Inv-loop μ-loop Inv-loop2 μ-loop2
 mul-source-from c = omega arith
@@ -53,10 +58,13 @@ loop-less : tie.Need-loop-less Inv-loop μ-loop Inv-loop2 μ-loop2
 loop-less c = omega arith
 
 loop-again : tie.Need-loop-again Inv-loop μ-loop Inv-loop2 μ-loop2
-loop-again c = sources-turn (c .before .before .before .before .before .before .before .args .b .now) (c .before .before .loop .s) (c .before .before .loop .i) (c .source-from .result) (c .before .before .loop .inv) (omega arith) (c .source-from .ensures)
+loop-again c =
+    let l = c .before .before .loop in
+    source-more (c .before .before .before .before .before .before .before .args .b .now) (l .s) (l .i) 0 (l .inv)
+    (c .source-from .result) (omega arith) (c .source-from .ensures)
 
 loop2-holds : tie.Need-loop2-holds Inv-loop μ-loop Inv-loop2 μ-loop2
-loop2-holds c = cores-start (c .before .before .before .before .before .before .args .b .now) (c .before .loop .s) (c .before .loop .i) (c .before .loop .inv) (c .loop-test .left)
+loop2-holds c = c .before .loop .inv
 
 mul-core-from : tie.Need-mul-core-from Inv-loop μ-loop Inv-loop2 μ-loop2
 mul-core-from c = omega arith
@@ -80,10 +88,16 @@ loop2-less : tie.Need-loop2-less Inv-loop μ-loop Inv-loop2 μ-loop2
 loop2-less c = omega arith
 
 loop2-again : tie.Need-loop2-again Inv-loop μ-loop Inv-loop2 μ-loop2
-loop2-again c = cores-turn (c .before .before .before .before .before .before .before .before .before .args .b .now) (c .before .before .loop2 .s) (c .before .before .loop2 .k) (c .core-from .result) (c .before .before .loop2 .inv) (omega arith) (c .core-from .ensures)
+loop2-again c =
+    let l = c .before .before .loop2 in
+    core-more (c .before .before .before .before .before .before .before .before .before .args .b .now) (l .s)
+    (c .before .before .before .before .loop .i) (l .k) (l .inv) (c .core-from .result) (omega arith) (c .core-from .ensures)
 
 returns : tie.Need-returns Inv-loop μ-loop Inv-loop2 μ-loop2
-returns c = all-read (c .before .before .before .before .before .before .before .before .args .b .now) (c .before .loop2 .s) (c .before .loop2 .k) (c .before .loop2 .inv) (c .loop2-test .left)
+returns c =
+    let l = c .before .loop2 in
+    all-read (c .before .before .before .before .before .before .before .before .args .b .now) (l .s) (c .before .before .before .loop .i)
+    (l .k) (l .inv) (c .before .before .loop-test .left) (c .loop2-test .left)
 
 pub state-from-spec : {M : Type 1} → statement M
 state-from-spec =
