@@ -3,25 +3,29 @@
 --   failing, passing        what the branch says of the definition's test
 --   unnamed-zero, named-le  the test of an id
 --   makes-none, makes       the two answers of making
---   at-state, at-check      a state that is not sound, a check that fails: the refusal's answer is the command's
---   at-name                 the same for an id that names no source
+--   Asks s o named number later    the checks of command o on a sound state: `named`, else the number, and then `later`
 --   answers                 a command that passes answers its settled effect
+--   at-state, at-name, at-later    where the state's test fails, the first check, a later one: the refusal's answer is the command's
+--   passes                  where none fails
 --   as-variant              an answer to the command that a `match` has found
---   Addressed s id          a sound state and the id of one of its sources, as the first two tests of six commands find them
+--   Addressed s id, AddressedCore s k    a sound state and one of its sources, or cores, as a command's first two tests find them
+--   claiming, setting-core  the checks of the two commands on a core
 use Prim.Native.Nat.{ℕ, suc, _-_, _<_, _≤_}
-use mathlib.Core.Path.{_≡_, sym, ap, _∙_}
+use mathlib.Core.Path.{_≡_, refl, sym, ap, _∙_}
 use mathlib.Core.Bool.{Bool, true, false, not}
 use native.Mathlib.Omega.{arith}
 use lib.Dec.{leb}
-use borrow.Author.Tests.{le-leb}
+use borrow.Author.Tests.{ltb-true, le-leb}
 use Rattle.model.specs.declared.SourceId.{SourceId}
 use Rattle.model.specs.declared.CoreId.{CoreId}
 use Rattle.model.specs.declared.Controller.{Controller}
 use Rattle.model.specs.declared.Answer.{Answer}
 use Rattle.model.specs.declared.Command.{Command}
-use Rattle.model.specs.Records.{maxSources, maxCores, reset, answer}
+use Rattle.model.specs.declared.Command.the-variants.{SetCorePriority, Claim}
+use Rattle.model.specs.Records.{maxSources, maxCores, coreAt, reset, answer}
+use Rattle.model.specs.Priorities.{topPriority}
 use Rattle.model.specs.WellFormed.{between, sizesInRange, wellFormed, WellFormed}
-use Rattle.model.specs.Commands.{unless, namesSource, effect, refusalOf, refusal, answeredId, settled, refused, execute, make}
+use Rattle.model.specs.Commands.{unless, namesSource, namesCore, effect, refusalOf, refusal, answeredId, settled, refused, execute, make}
 use Rattle.model.proofs.Bools.{not-out, not-not}
 use Rattle.soundness.proofs.Exact.{between-exact}
 use Rattle.soundness.proofs.Test.{wellFormed-out}
@@ -55,39 +59,42 @@ module _ (n m : ℕ) {w : Bool} (is : w ≡ sizesInRange n m) where
 
 -- ---- refused and accepted
 
-module _ (s : Controller) (o : Command) where
-  refused-with : (k : ℕ) → refusal s o ≡ suc k → {r : Answer} → r ≡ refused s (suc k) → r ≡ execute s o
-  refused-with k e is = is ∙ ap (refused s) (sym e) ∙ sym (execute-refused s o (λ z. absurd (omega arith)))
+pub record Asks (s : Controller) (o : Command) (named : Bool) (number later : ℕ) : Type 0 where
+  pub checks : refusalOf s o ≡ unless named number later
 
-  pub at-state : wellFormed s ≡ false → {r : Answer} → r ≡ refused s 1 → r ≡ execute s o
-  unfolding refusal
-  at-state e is = refused-with 0 (rw e) is
+pub answers : (s : Controller) (o : Command) → wellFormed s ≡ true → refusalOf s o ≡ 0 → settled (effect s o) (answeredId s o) ≡ execute s o
+unfolding refusal
+answers s o sound e = sym (execute-accepted s o (rw sound e))
 
-  module _ (sound : wellFormed s ≡ true) where
-    pub at-check : (k : ℕ) → refusalOf s o ≡ suc k → {r : Answer} → r ≡ refused s (suc k) → r ≡ execute s o
+module _ {s : Controller} {o : Command} {named : Bool} {number later : ℕ} (asks : Asks s o named (suc number) later) where
+  refused-with : {k : ℕ} → refusal s o ≡ suc k → {r : Answer} → r ≡ refused s (suc k) → r ≡ execute s o
+  refused-with e is = is ∙ ap (refused s) (sym e) ∙ sym (execute-refused s o (λ z. absurd (omega arith)))
+
+  module _ {w : Bool} (tests : w ≡ wellFormed s) where
+    pub at-state : not w ≡ true → {r : Answer} → r ≡ refused s 1 → r ≡ execute s o
     unfolding refusal
-    at-check k e is = refused-with k (rw sound e) is
+    at-state e is = refused-with {k = 0} (rw (failing tests e)) is
 
-    pub at-name : (id : SourceId) (later : ℕ) → refusalOf s o ≡ unless (namesSource s id) 4 later → namesSource s id ≡ false → {r : Answer} → r ≡ refused s 4 → r ≡ execute s o
-    at-name id later check e is = at-check 3 (check ∙ rw e) is
-
-    pub answers : refusalOf s o ≡ 0 → settled (effect s o) (answeredId s o) ≡ execute s o
+    pub at-name : not w ≡ false → {v : Bool} → v ≡ named → not v ≡ true → {r : Answer} → r ≡ refused s (suc number) → r ≡ execute s o
     unfolding refusal
-    answers e = sym (execute-accepted s o (rw sound e))
+    at-name e names g is = refused-with (rw (passing tests e, asks .checks, failing names g)) is
+
+  module _ (sound : wellFormed s ≡ true) (is-named : named ≡ true) where
+    pub at-later : {k : ℕ} → later ≡ suc k → {r : Answer} → r ≡ refused s (suc k) → r ≡ execute s o
+    unfolding refusal
+    at-later e is = refused-with (rw (sound, asks .checks, is-named) e) is
+
+    pub passes : later ≡ 0 → refusalOf s o ≡ 0
+    passes e = rw (asks .checks, is-named) e
 
 -- a command that the code has found to be o′
 pub as-variant : (s : Controller) {o o′ : Command} → o ≡ o′ → {r : Answer} → r ≡ execute s o′ → r ≡ execute s o
 as-variant s e is = is ∙ ap (execute s) (sym e)
 
--- ---- the cores of a sound state
+-- ---- a source of a sound state, and a core
 
 pub cores-in-array : (s : Controller) → wellFormed s ≡ true → s .m ≤ maxCores
 cores-in-array s sound = (wellFormed-out s sound) .m-le
-
-pub core-in-array : (s : Controller) (k : CoreId) → wellFormed s ≡ true → k .0 < s .m → k .0 < maxCores
-core-in-array s k sound k-lt = omega (arith, cores-in-array s sound)
-
--- ---- a source of a sound state
 
 pub record Addressed (s : Controller) (id : SourceId) : Type 0 where
   pub sound : wellFormed s ≡ true
@@ -96,8 +103,30 @@ pub record Addressed (s : Controller) (id : SourceId) : Type 0 where
   pub in-use : id .0 - 1 < s .n
   pub in-array : id .0 - 1 < maxSources
 
-pub addressed : (s : Controller) (id : SourceId) → wellFormed s ≡ true → namesSource s id ≡ true → Addressed s id
-addressed s id sound named =
-    let w : WellFormed s = wellFormed-out s sound in
-    let range : (1 ≤ id .0) × (id .0 ≤ s .n) = (between-exact 1 (s .n) (id .0)) .0 named in
-    record { sound = sound; named = named; some-id = range .0; in-use = omega arith; in-array = omega arith }
+pub record AddressedCore (s : Controller) (k : CoreId) : Type 0 where
+  pub sound : wellFormed s ≡ true
+  pub named : namesCore s k ≡ true
+  pub in-array : k .0 < maxCores
+
+module _ {s : Controller} {w v : Bool} (tests : w ≡ wellFormed s) (e : not w ≡ false) where
+  pub addressed : {id : SourceId} → v ≡ namesSource s id → not v ≡ false → Addressed s id
+  addressed {id} names g =
+      let x : WellFormed s = wellFormed-out s (passing tests e) in
+      let range : (1 ≤ id .0) × (id .0 ≤ s .n) = (between-exact 1 (s .n) (id .0)) .0 (passing names g) in
+      record { sound = passing tests e; named = passing names g; some-id = range .0; in-use = omega arith; in-array = omega arith }
+
+  pub addressed-core : {k : CoreId} → v ≡ namesCore s k → not v ≡ false → AddressedCore s k
+  addressed-core {k} names g =
+      let below : k .0 < s .m = ltb-true (k .0) (s .m) (passing names g) in
+      record { sound = passing tests e; named = passing names g; in-array = omega (arith, cores-in-array s (passing tests e)) }
+
+-- ---- the two commands on a core
+
+module _ (s : Controller) (k : CoreId) where
+  pub claiming : Asks s (Claim k) (namesCore s k) 3 (unless ((coreAt s (k .0)) .message .filled) 7 0)
+  unfolding refusalOf
+  claiming = record { checks = refl }
+
+  pub setting-core : (p : ℕ) → Asks s (SetCorePriority k p) (namesCore s k) 3 (unless (leb p (topPriority (s .n))) 5 0)
+  unfolding refusalOf
+  setting-core p = record { checks = refl }

@@ -1,11 +1,13 @@
 -- The answers of the six commands that write one source. Assumes nothing.
---   updated f s i    the state with source record i changed by f
---   source-begins    what the deliveries after such a command require
---   source-delivers  the deliveries give the command's answer
---   source-rests     the effect itself is the command's answer, where the new record leaves the state at rest
+--   OnSource s o id later f    command o asks for the source with the id and then `later`, changes that source by f, and answers no id
+--   setting, masking, ..       the six commands as such
+--   source-begins      what the deliveries after such a command require
+--   source-delivers    the deliveries give the command's answer
+--   source-rests       the effect itself is the command's answer, where the new record leaves the state at rest
+--   calm-masked, ..    the records of the three commands that do
 use Prim.Native.Nat.{ℕ, _-_, _<_, _≤_}
 use mathlib.Core.Path.{_≡_, refl, sym, ap, _∙_}
-use mathlib.Core.Bool.{true, false}
+use mathlib.Core.Bool.{true, false, not}
 use lib.ListN.{length}
 use native.Mathlib.Omega.{arith}
 use native.Mathlib.Numerals.{sub-one}
@@ -14,10 +16,12 @@ use Rattle.model.specs.declared.Source.{Source}
 use Rattle.model.specs.declared.Controller.{Controller}
 use Rattle.model.specs.declared.Answer.{Answer}
 use Rattle.model.specs.declared.Command.{Command}
-use Rattle.model.specs.Records.{maxCores, noSource, indexOf, sourceAt, coreAt, withConfigured, withMask, ended, withSource, answer}
-use Rattle.model.specs.Requests.{currentPriority, waiting, candidate}
-use Rattle.model.specs.WellFormed.{wellFormed, WellFormed}
-use Rattle.model.specs.Commands.{effect, refusalOf, answeredId, settled, execute}
+use Rattle.model.specs.declared.Command.the-variants.{SetSourcePriority, Mask, Unmask, Trigger, Redeliver, Complete}
+use Rattle.model.specs.Records.{maxCores, noSource, indexOf, sourceAt, coreAt, withConfigured, withMask, withDelivered, opened, ended, withSource, answer}
+use Rattle.model.specs.Priorities.{topPriority}
+use Rattle.model.specs.Requests.{currentPriority, waiting, candidate, claimed}
+use Rattle.model.specs.WellFormed.{between, WellFormed}
+use Rattle.model.specs.Commands.{unless, namesSource, effect, refusalOf, answeredId, settled, execute}
 use Rattle.model.proofs.Bools.{and-r, clash}
 use Rattle.soundness.proofs.Test.{wellFormed-out}
 use Rattle.settling.specs.Phases.{Consistent, Delivering}
@@ -25,60 +29,97 @@ use Rattle.settling.specs.Runs.{AfterDeliveries}
 use Rattle.settling.proofs.Next.{Settled}
 use Rattle.guarantees.proofs.Writes.{read-set}
 use Rattle.guarantees.proofs.Effects.{effect-consistent}
-use Rattle.commands.proofs.Answering.{answers}
 use Rattle.guarantees.proofs.AtRest.{still, unmoved, delivered}
+use Rattle.commands.proofs.Answering.{Asks, passes, answers, Addressed}
 
-abbrev pub updated : (Source → Source) → Controller → ℕ → Controller
+-- ---- the six commands
+
+abbrev updated : (Source → Source) → Controller → ℕ → Controller
 updated f s i = withSource s i (f (sourceAt s i))
 
+pub record OnSource (s : Controller) (o : Command) (id : SourceId) (later : ℕ) (f : Source → Source) : Type 0 where
+  pub asks : Asks s o (namesSource s id) 4 later
+  pub changes : effect s o ≡ updated f s (indexOf id)
+  pub no-id : answeredId s o ≡ 0
+
+module _ (s : Controller) (id : SourceId) where
+  pub setting : (p : ℕ) → OnSource s (SetSourcePriority id p) id (unless (between 1 (topPriority (s .n)) p) 5 0) (withConfigured p)
+  unfolding effect refusalOf answeredId
+  setting p = record { asks = record { checks = refl }; changes = refl; no-id = refl }
+
+  pub masking : OnSource s (Mask id) id 0 (withMask true)
+  unfolding effect refusalOf answeredId
+  masking = record { asks = record { checks = refl }; changes = refl; no-id = refl }
+
+  pub unmasking : OnSource s (Unmask id) id 0 (withMask false)
+  unfolding effect refusalOf answeredId
+  unmasking = record { asks = record { checks = refl }; changes = refl; no-id = refl }
+
+  pub triggering : OnSource s (Trigger id) id (unless (not ((sourceAt s (indexOf id)) .pending)) 6 0) opened
+  unfolding effect refusalOf answeredId
+  triggering = record { asks = record { checks = refl }; changes = refl; no-id = refl }
+
+  pub redelivering : OnSource s (Redeliver id) id (unless (claimed s (indexOf id)) 8 0) (withDelivered false)
+  unfolding effect refusalOf answeredId
+  redelivering = record { asks = record { checks = refl }; changes = refl; no-id = refl }
+
+  pub completing : OnSource s (Complete id) id (unless (claimed s (indexOf id)) 8 0) ended
+  unfolding effect refusalOf answeredId
+  completing = record { asks = record { checks = refl }; changes = refl; no-id = refl }
+
+-- ---- their answers
+
 -- No core is below the request of a record, if that is a candidate.
-abbrev pub Calm : Controller → Source → Type 0
+abbrev Calm : Controller → Source → Type 0
 Calm s r = (k : ℕ) → k < s .m → candidate r ≡ true → r .priority ≤ currentPriority (coreAt s k)
 
--- An accepted command whose effect changes one source, and answers no id. The code writes id - 1 for the index.
-module _ (s : Controller) (o : Command) (id : SourceId) (f : Source → Source) (is-effect : effect s o ≡ updated f s (indexOf id)) (no-id : answeredId s o ≡ 0) (sound : wellFormed s ≡ true) (passes : refusalOf s o ≡ 0) where
+-- An accepted one. The code has written x at the index id - 1.
+module _ {s : Controller} {o : Command} {id : SourceId} {later : ℕ} {f : Source → Source} (on : OnSource s o id later f) (h : Addressed s id) (free : later ≡ 0) {x : Source} (new : x ≡ f (sourceAt s (id .0 - 1))) where
   w : WellFormed s
-  w = wellFormed-out s sound
+  w = wellFormed-out s (h .sound)
 
-  written : updated f s (id .0 - 1) ≡ effect s o
-  written = ap (updated f s) (sub-one (id .0)) ∙ sym is-effect
+  accepted : refusalOf s o ≡ 0
+  accepted = passes (on .asks) (h .sound) (h .named) free
 
-  consistent : Consistent (updated f s (id .0 - 1))
-  consistent = rw written (effect-consistent s o w passes)
+  written : withSource s (id .0 - 1) x ≡ effect s o
+  written = ap (withSource s (id .0 - 1)) new ∙ ap (updated f s) (sub-one (id .0)) ∙ sym (on .changes)
 
-  delivering : Delivering (updated f s (id .0 - 1))
+  consistent : Consistent (withSource s (id .0 - 1) x)
+  consistent = rw written (effect-consistent s o w accepted)
+
+  delivering : Delivering (withSource s (id .0 - 1) x)
   delivering = record { clean = w .clean; covered = w .covered-settled }
 
-  pub source-begins : Consistent (updated f s (id .0 - 1)) × Delivering (updated f s (id .0 - 1)) × (0 ≤ maxCores)
+  pub source-begins : Consistent (withSource s (id .0 - 1) x) × Delivering (withSource s (id .0 - 1) x) × (0 ≤ maxCores)
   source-begins = (consistent, delivering, omega arith)
 
-  settled-answers : settled (updated f s (id .0 - 1)) 0 ≡ execute s o
-  settled-answers = rw (written, ← no-id) (answers s o sound passes)
+  settled-answers : settled (withSource s (id .0 - 1) x) 0 ≡ execute s o
+  settled-answers = rw (written, ← on .no-id) (answers s o (h .sound) accepted)
 
-  pub source-delivers : {r : Answer} → AfterDeliveries (updated f s (id .0 - 1)) 0 0 r → r ≡ execute s o
-  source-delivers after = delivered (updated f s (id .0 - 1)) 0 after ∙ settled-answers
+  pub source-delivers : {r : Answer} → AfterDeliveries (withSource s (id .0 - 1) x) 0 0 r → r ≡ execute s o
+  source-delivers after = delivered (withSource s (id .0 - 1) x) 0 after ∙ settled-answers
 
-  calm-settled : id .0 - 1 < s .n → Calm s (f (sourceAt s (id .0 - 1))) → Settled (updated f s (id .0 - 1))
-  calm-settled at-lt calm i k i-lt k-lt =
-      let fits : id .0 - 1 < length (s .sources) = omega (arith, w .sources-length, w .n-le) in
-      read-set (λ q. candidate q ≡ true → q .priority ≤ currentPriority (coreAt s k)) (s .sources) (id .0 - 1) i (f (sourceAt s (id .0 - 1))) noSource fits (λ e. calm k k-lt) (λ h. w .candidates-settled i k i-lt k-lt)
+  calm-settled : Calm s x → Settled (withSource s (id .0 - 1) x)
+  calm-settled calm i k i-lt k-lt =
+      let fits : id .0 - 1 < length (s .sources) = omega (arith, w .sources-length, h .in-array) in
+      read-set (λ q. candidate q ≡ true → q .priority ≤ currentPriority (coreAt s k)) (s .sources) (id .0 - 1) i x noSource fits (λ e. calm k k-lt) (λ g. w .candidates-settled i k i-lt k-lt)
 
-  pub source-rests : id .0 - 1 < s .n → Calm s (f (sourceAt s (id .0 - 1))) → {r : Answer} → r ≡ answer (updated f s (id .0 - 1)) 0 0 0 → r ≡ execute s o
-  source-rests at-lt calm is =
-      is ∙ sym (unmoved (updated f s (id .0 - 1)) (still (updated f s (id .0 - 1)) consistent delivering (calm-settled at-lt calm)) 0) ∙
+  pub source-rests : Calm s (f (sourceAt s (id .0 - 1))) → {r : Answer} → r ≡ answer (withSource s (id .0 - 1) x) 0 0 0 → r ≡ execute s o
+  source-rests calm is =
+      is ∙ sym (unmoved (withSource s (id .0 - 1) x) (still (withSource s (id .0 - 1) x) consistent delivering (calm-settled (rw new calm))) 0) ∙
       settled-answers
 
 -- ---- the records of the three commands that leave the state at rest
 
-module _ (s : Controller) (i : ℕ) where
+module _ {s : Controller} {id : SourceId} (h : Addressed s id) where
+  -- another priority for later requests: the request is the same
+  pub calm-configured : (p : ℕ) → Calm s (withConfigured p (sourceAt s (id .0 - 1)))
+  calm-configured p k k-lt e = (wellFormed-out s (h .sound)) .candidates-settled (id .0 - 1) k (h .in-use) k-lt e
+
   -- a masked source is no candidate
-  pub calm-masked : Calm s (withMask true (sourceAt s i))
-  calm-masked k h e = clash (and-r (waiting (sourceAt s i)) false e) refl
+  pub calm-masked : Calm s (withMask true (sourceAt s (id .0 - 1)))
+  calm-masked k k-lt e = clash (and-r (waiting (sourceAt s (id .0 - 1))) false e) refl
 
   -- neither is one without a request
-  pub calm-ended : Calm s (ended (sourceAt s i))
-  calm-ended k h e = clash e refl
-
-  -- another priority for later requests: the request is the same
-  pub calm-configured : WellFormed s → i < s .n → (p : ℕ) → Calm s (withConfigured p (sourceAt s i))
-  calm-configured w i-lt p k h e = w .candidates-settled i k i-lt h e
+  pub calm-ended : Calm s (ended (sourceAt s (id .0 - 1)))
+  calm-ended k k-lt e = clash e refl

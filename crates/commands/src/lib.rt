@@ -4,6 +4,7 @@ ghost use Prim.Native.Nat.{_≤_};
 ghost use mathlib.Core.Path.{_≡_};
 ghost use mathlib.Core.List.{map};
 ghost use mathlib.Core.Bool.{_&&_, not};
+ghost use lib.Dec.{ltb};
 ghost use Rattle.model.specs.Records.{maxCores, answer};
 ghost use Rattle.model.specs.Requests.{boxed as boxedIn};
 ghost use Rattle.model.specs.WellFormed.{between};
@@ -32,11 +33,11 @@ fn refused(s: Controller, number: u8) -> Answer
 
 // An accepted command whose effect leaves the state at rest.
 // Rules out: a number for no (`accepted_answers_one`).
-fn resting(s: Controller, id: SourceId) -> Answer
-    ensures { λ r. ⌜ r ≡ answer s 0 (id .0) 0 ⌝ }
+fn resting(state: Controller, id: SourceId) -> Answer
+    ensures { λ r. ⌜ r ≡ answer state 0 (id .0) 0 ⌝ }
 {
     Answer {
-        state: s,
+        state,
         number: 0,
         id,
         cycles: 0,
@@ -63,6 +64,14 @@ fn names_source(n: u16, id: SourceId) -> bool
         return false;
     }
     id.0 <= n
+}
+
+// Whether the core's number is 0 to m - 1.
+// Rules out: core m (`core_m_accepted`).
+fn names_core(m: u16, core: CoreId) -> bool
+    ensures { λ r. ⌜ r ≡ ltb (core .0) m ⌝ }
+{
+    core.0 < m
 }
 
 // Whether a filled box of the first m cores names the source.
@@ -98,7 +107,7 @@ fn is_claimed(s: Source, cores: [Core; CORES], m: usize, id: SourceId) -> bool
 }
 
 // Every filled box becomes dirty.
-// Rules out: one core's alone (`only_written_core_dirty`).
+// Rules out: core 0's alone (`only_first_core_dirty`).
 fn all_soiled(cores: [Core; CORES]) -> [Core; CORES]
     ensures { λ r. ⌜ r ≡ map soiled cores ⌝ }
 {
@@ -111,8 +120,7 @@ fn all_soiled(cores: [Core; CORES]) -> [Core; CORES]
     next
 }
 
-// Rules out: 5 for a bad id with a bad priority (`priority_before_source`); a pending request that changes its priority
-// (`request_follows_setting`).
+// Rules out: a priority of 0 (`priority_zero_accepted`); another priority than the one given (`source_priority_one`).
 pub fn set_source_priority(s: Controller, id: SourceId, p: u16) -> Answer
     ensures { λ r. ⌜ r ≡ executeOf s (Command.SetSourcePriority id p) ⌝ }
 {
@@ -130,13 +138,11 @@ pub fn set_source_priority(s: Controller, id: SourceId, p: u16) -> Answer
     }
     let at = id.0 as usize - 1;
     let mut next = s;
-    let mut r = next.sources[at];
-    r.configured = p;
-    next.sources[at] = r;
+    next.sources[at] = model::with_configured(next.sources[at], p);
     resting(next, SourceId(0))
 }
 
-// Rules out: the mask turned off (`unmask_for_mask`); a request that ends (`mask_ends_request`).
+// Rules out: the mask turned off (`unmask_for_mask`); the state handed back as it was (`mask_changes_nothing`).
 pub fn mask(s: Controller, id: SourceId) -> Answer
     ensures { λ r. ⌜ r ≡ executeOf s (Command.Mask id) ⌝ }
 {
@@ -147,14 +153,12 @@ pub fn mask(s: Controller, id: SourceId) -> Answer
         return refused(s, 4);
     }
     let at = id.0 as usize - 1;
-    let mut next = s;
-    let mut r = next.sources[at];
-    r.masked = true;
-    next.sources[at] = r;
-    resting(next, SourceId(0))
+    let mut masked = s;
+    masked.sources[at] = model::with_mask(masked.sources[at], true);
+    resting(masked, SourceId(0))
 }
 
-// Rules out: the mask turned on (`mask_for_unmask`); a boxed request that waits again (`unmask_withdraws`).
+// Rules out: the mask turned on (`mask_for_unmask`); the state settled as it was (`unmask_changes_nothing`).
 pub fn unmask(s: Controller, id: SourceId) -> Answer
     ensures { λ r. ⌜ r ≡ executeOf s (Command.Unmask id) ⌝ }
 {
@@ -165,21 +169,20 @@ pub fn unmask(s: Controller, id: SourceId) -> Answer
         return refused(s, 4);
     }
     let at = id.0 as usize - 1;
-    let mut next = s;
-    let mut r = next.sources[at];
-    r.masked = false;
-    next.sources[at] = r;
-    settling::deliver_all(next, SourceId(0), 0)
+    let mut unmasked = s;
+    unmasked.sources[at] = model::with_mask(unmasked.sources[at], false);
+    settling::deliver_all(unmasked, SourceId(0), 0)
 }
 
-// Rules out: boxes left clean (`no_box_dirty`); retractions that are not counted (`retractions_not_counted`).
+// Rules out: the core's old priority (`core_keeps_priority`); boxes left clean (`no_box_dirty`); retractions that are not counted
+// (`retractions_not_counted`).
 pub fn set_core_priority(s: Controller, core: CoreId, p: u16) -> Answer
     ensures { λ r. ⌜ r ≡ executeOf s (Command.SetCorePriority core p) ⌝ }
 {
     if !soundness::well_formed(s) {
         return refused(s, 1);
     }
-    if s.m <= core.0 {
+    if !names_core(s.m, core) {
         return refused(s, 3);
     }
     if model::top_priority(s.n) < p as u32 {
@@ -187,9 +190,8 @@ pub fn set_core_priority(s: Controller, core: CoreId, p: u16) -> Answer
     }
     let k = core.0 as usize;
     let mut cores = s.cores;
-    let mut c = cores[k];
-    c.configured = p;
-    cores[k] = c;
+    let c = cores[k];
+    cores[k] = model::core_with(p, c.message);
     let soiled_cores = all_soiled(cores);
     let mut next = s;
     next.cores = soiled_cores;
@@ -198,7 +200,7 @@ pub fn set_core_priority(s: Controller, core: CoreId, p: u16) -> Answer
     settling::deliver_all(state, SourceId(0), r.cycles)
 }
 
-// Rules out: a second request of a source (`retrigger_accepted`); a request at an older priority (`trigger_keeps_old_priority`).
+// Rules out: a second request of a source (`retrigger_accepted`); another number for it (`retrigger_answers_eight`).
 pub fn trigger(s: Controller, id: SourceId) -> Answer
     ensures { λ r. ⌜ r ≡ executeOf s (Command.Trigger id) ⌝ }
 {
@@ -209,26 +211,23 @@ pub fn trigger(s: Controller, id: SourceId) -> Answer
         return refused(s, 4);
     }
     let at = id.0 as usize - 1;
-    let mut r = s.sources[at];
+    let r = s.sources[at];
     if r.pending {
         return refused(s, 6);
     }
-    r.pending = true;
-    r.delivered = false;
-    r.priority = r.configured;
-    let mut next = s;
-    next.sources[at] = r;
-    settling::deliver_all(next, SourceId(0), 0)
+    let mut triggered = s;
+    triggered.sources[at] = model::opened(r);
+    settling::deliver_all(triggered, SourceId(0), 0)
 }
 
-// Rules out: an answer of the core's number (`claim_answers_core`); core m accepted (`core_m_accepted`).
+// Rules out: an answer of the core's number (`claim_answers_core`); an empty box (`empty_box_claimed`).
 pub fn claim(s: Controller, core: CoreId) -> Answer
     ensures { λ r. ⌜ r ≡ executeOf s (Command.Claim core) ⌝ }
 {
     if !soundness::well_formed(s) {
         return refused(s, 1);
     }
-    if s.m <= core.0 {
+    if !names_core(s.m, core) {
         return refused(s, 3);
     }
     let k = core.0 as usize;
@@ -236,12 +235,12 @@ pub fn claim(s: Controller, core: CoreId) -> Answer
     if !c.message.filled {
         return refused(s, 7);
     }
-    let mut next = s;
-    next.cores[k] = model::claimed_core(c);
-    resting(next, c.message.source)
+    let mut claimed = s;
+    claimed.cores[k] = model::claimed_core(c);
+    resting(claimed, c.message.source)
 }
 
-// Rules out: a request that ends (`redeliver_ends_request`); one that stays claimed (`redeliver_changes_nothing`).
+// Rules out: a request that stays claimed (`redeliver_changes_nothing`); an answer of its id (`redeliver_answers_id`).
 pub fn redeliver(s: Controller, id: SourceId) -> Answer
     ensures { λ r. ⌜ r ≡ executeOf s (Command.Redeliver id) ⌝ }
 {
@@ -252,18 +251,17 @@ pub fn redeliver(s: Controller, id: SourceId) -> Answer
         return refused(s, 4);
     }
     let at = id.0 as usize - 1;
-    let mut r = s.sources[at];
+    let r = s.sources[at];
     let cores = s.cores;
     if !is_claimed(r, cores, s.m as usize, id) {
         return refused(s, 8);
     }
-    r.delivered = false;
-    let mut next = s;
-    next.sources[at] = r;
-    settling::deliver_all(next, SourceId(0), 0)
+    let mut redelivered = s;
+    redelivered.sources[at] = model::with_delivered(r, false);
+    settling::deliver_all(redelivered, SourceId(0), 0)
 }
 
-// Rules out: a core's priority lowered (`complete_lowers_core`); a request's priority left behind (`complete_keeps_priority`).
+// Rules out: a request that stays claimed (`complete_changes_nothing`); an answer of its id (`complete_answers_id`).
 pub fn complete(s: Controller, id: SourceId) -> Answer
     ensures { λ r. ⌜ r ≡ executeOf s (Command.Complete id) ⌝ }
 {
@@ -274,17 +272,14 @@ pub fn complete(s: Controller, id: SourceId) -> Answer
         return refused(s, 4);
     }
     let at = id.0 as usize - 1;
-    let mut r = s.sources[at];
+    let r = s.sources[at];
     let cores = s.cores;
     if !is_claimed(r, cores, s.m as usize, id) {
         return refused(s, 8);
     }
-    r.pending = false;
-    r.delivered = false;
-    r.priority = 0;
-    let mut next = s;
-    next.sources[at] = r;
-    resting(next, SourceId(0))
+    let mut completed = s;
+    completed.sources[at] = model::ended(r);
+    resting(completed, SourceId(0))
 }
 
 // One call for all eight.

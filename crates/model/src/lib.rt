@@ -4,7 +4,7 @@
 // Widths: ids, core numbers and priorities are u16, so that up to 1,023 sources with priorities up to 2,047 fit.
 
 ghost use mathlib.Core.Path.{_≡_};
-ghost use Rattle.model.specs.Records.{sourceWith, boxWith, emptyBox, holding, coreWith, reset as resetOf};
+ghost use Rattle.model.specs.Records.{sourceWith, withConfigured, withMask, withDelivered, opened as openedOf, ended as endedOf, boxWith, emptyBox, holding, coreWith, reset as resetOf};
 ghost use Rattle.model.specs.Priorities.{topPriority};
 ghost use Rattle.model.specs.Requests.{currentPriority, candidate};
 ghost use Rattle.model.specs.Arbitration.{rank as rankOf};
@@ -138,6 +138,46 @@ pub fn source_with(
         delivered,
         priority,
     }
+}
+
+// The source with another priority for its next request.
+// Rules out: a pending request that takes it over (`request_follows_setting`).
+pub fn with_configured(r: Source, p: u16) -> Source
+    ensures { λ s. ⌜ s ≡ withConfigured p r ⌝ }
+{
+    source_with(p, r.masked, r.pending, r.delivered, r.priority)
+}
+
+// The source masked, or not.
+// Rules out: a request that ends (`mask_ends_request`); a delivered one that waits again (`unmask_withdraws`).
+pub fn with_mask(r: Source, masked: bool) -> Source
+    ensures { λ s. ⌜ s ≡ withMask masked r ⌝ }
+{
+    source_with(r.configured, masked, r.pending, r.delivered, r.priority)
+}
+
+// The source whose request is delivered, or not.
+// Rules out: a request that ends (`redeliver_ends_request`).
+pub fn with_delivered(r: Source, delivered: bool) -> Source
+    ensures { λ s. ⌜ s ≡ withDelivered delivered r ⌝ }
+{
+    source_with(r.configured, r.masked, r.pending, delivered, r.priority)
+}
+
+// The source with a new request, at its configured priority.
+// Rules out: no request (`trigger_opens_nothing`); one at an older priority (`trigger_keeps_old_priority`).
+pub fn opened(r: Source) -> Source
+    ensures { λ s. ⌜ s ≡ openedOf r ⌝ }
+{
+    source_with(r.configured, r.masked, true, false, r.configured)
+}
+
+// The source with no request any more.
+// Rules out: the request's priority left behind (`complete_keeps_priority`).
+pub fn ended(r: Source) -> Source
+    ensures { λ s. ⌜ s ≡ endedOf r ⌝ }
+{
+    source_with(r.configured, r.masked, false, false, 0)
 }
 
 pub fn box_with(filled: bool, dirty: bool, source: SourceId, priority: u16) -> MessageBox

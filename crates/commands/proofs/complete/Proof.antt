@@ -1,22 +1,14 @@
 -- `commands::complete` meets its contract: the effect leaves the state at rest, since a source without a request is no candidate.
 -- Assumes nothing.
-use Prim.Native.Nat.{_-_}
-use mathlib.Core.Path.{refl}
 use borrow.Author.Needs.{needs}
-use Rattle.model.specs.declared.Command.the-variants.{Complete}
-use Rattle.model.specs.Records.{ended}
-use Rattle.model.specs.Commands.{effect, refusalOf, answeredId}
-use Rattle.commands.proofs.Answering.{failing, passing, at-state, at-check, at-name, Addressed, addressed, cores-in-array}
-use Rattle.commands.proofs.Refusing.{complete-unclaimed, completes}
-use Rattle.commands.proofs.SourceAnswers.{source-rests, calm-ended}
+use Rattle.commands.proofs.Answering.{at-state, at-name, at-later, cores-in-array, Addressed, addressed}
+use Rattle.commands.proofs.Refusing.{unclaimed-refused, is-claimed}
+use Rattle.commands.proofs.SourceAnswers.{completing, source-rests, calm-ended}
 use Rattle.commands.proofs.complete.Statement.{statement}
 use Rattle.commands.proofs.complete.Tie as tie
 
 here : (c : tie.Else2) → Addressed (c .before .before .before .before .args .t1) (c .before .before .before .before .args .id)
-here c =
-    addressed (c .before .before .before .before .args .t1) (c .before .before .before .before .args .id)
-    (passing (c .before .before .before .well-formed .ensures) (c .before .before .if1 .left))
-    (passing (c .before .names-source .ensures) (c .if2 .left))
+here c = addressed (c .before .before .before .well-formed .ensures) (c .before .before .if1 .left) (c .before .names-source .ensures) (c .if2 .left)
 
 well-formed-requires : tie.Need-well-formed-requires
 well-formed-requires c κs = search needs
@@ -27,7 +19,7 @@ refused-requires c κs = search needs
 returns : tie.Need-returns
 returns c =
     let a = c .before .before .before .args in
-    at-state (a .t1) (Complete (a .id)) (failing (c .before .before .well-formed .ensures) (c .before .if1 .taken)) (c .refused .ensures)
+    at-state ((completing (a .t1) (a .id)) .asks) (c .before .before .well-formed .ensures) (c .before .if1 .taken) (c .refused .ensures)
 
 names-source-requires : tie.Need-names-source-requires
 names-source-requires c κs = search needs
@@ -36,11 +28,10 @@ refused-requires-2 : tie.Need-refused-requires-2
 refused-requires-2 c κs = search needs
 
 returns-2 : tie.Need-returns-2
-unfolding refusalOf
 returns-2 c =
     let a = c .before .before .before .before .before .args in
-    at-name (a .t1) (Complete (a .id)) (passing (c .before .before .before .before .well-formed .ensures) (c .before .before .before .if1 .left)) (a .id) _ refl
-    (failing (c .before .before .names-source .ensures) (c .before .if2 .taken)) (c .refused2 .ensures)
+    at-name ((completing (a .t1) (a .id)) .asks) (c .before .before .before .before .well-formed .ensures) (c .before .before .before .if1 .left)
+    (c .before .before .names-source .ensures) (c .before .if2 .taken) (c .refused2 .ensures)
 
 cast-at : tie.Need-cast-at
 cast-at c = search needs
@@ -67,24 +58,27 @@ returns-3 : tie.Need-returns-3
 returns-3 c =
     let a = c .before .before .before .before .before .before .before .before .before .before .args in
     let h : Addressed (a .t1) (a .id) = here (c .before .before .before .before .before .before) in
-    at-check (a .t1) (Complete (a .id)) (h .sound) 7 (complete-unclaimed (a .t1) (a .id) h (c .before .before .is-claimed .ensures) (c .before .if3 .taken)) (c .refused3 .ensures)
+    at-later ((completing (a .t1) (a .id)) .asks) (h .sound) (h .named) (unclaimed-refused h (c .before .before .is-claimed .ensures) (c .before .if3 .taken))
+    (c .refused3 .ensures)
 
-mul-r-2 : tie.Need-mul-r-2
-mul-r-2 c = search needs
+ended-requires : tie.Need-ended-requires
+ended-requires c κs = search needs
 
-element-set-from-r : tie.Need-element-set-from-r
-element-set-from-r c = (here (c .before .before .before .before .before)) .in-array
+mul-t14 : tie.Need-mul-t14
+mul-t14 c = search needs
+
+element-set-from-completed : tie.Need-element-set-from-completed
+element-set-from-completed c = (here (c .before .before .before .before .before .before)) .in-array
 
 resting-requires : tie.Need-resting-requires
 resting-requires c κs = search needs
 
 returns-4 : tie.Need-returns-4
-unfolding effect answeredId
 returns-4 c =
-    let a = c .before .before .before .before .before .before .before .before .before .before .args in
-    let h : Addressed (a .t1) (a .id) = here (c .before .before .before .before .before .before) in
-    source-rests (a .t1) (Complete (a .id)) (a .id) ended refl refl (h .sound)
-    (completes (a .t1) (a .id) h (c .before .before .is-claimed .ensures) (c .before .if3 .left)) (h .in-use) (calm-ended (a .t1) (a .id .0 - 1)) (c .resting .ensures)
+    let a = c .before .before .before .before .before .before .before .before .before .before .before .args in
+    let h : Addressed (a .t1) (a .id) = here (c .before .before .before .before .before .before .before) in
+    source-rests (completing (a .t1) (a .id)) h (is-claimed h (c .before .before .before .is-claimed .ensures) (c .before .before .if3 .left))
+    (c .before .ended .ensures) (calm-ended h) (c .resting .ensures)
 
 pub complete-spec : {M : Type 1} → statement M
 complete-spec =
@@ -104,7 +98,8 @@ complete-spec =
     is-claimed-requires
     refused-requires-3
     returns-3
-    mul-r-2
-    element-set-from-r
+    ended-requires
+    mul-t14
+    element-set-from-completed
     resting-requires
     returns-4)

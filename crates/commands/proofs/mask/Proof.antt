@@ -1,22 +1,13 @@
 -- `commands::mask` meets its contract: the effect leaves the state at rest, since a masked source is no candidate. Assumes nothing.
-use Prim.Native.Nat.{_-_}
 use mathlib.Core.Path.{refl}
-use mathlib.Core.Bool.{true}
 use borrow.Author.Needs.{needs}
-use Rattle.model.specs.declared.Command.the-variants.{Mask}
-use Rattle.model.specs.Records.{withMask}
-use Rattle.model.specs.Commands.{effect, refusalOf, answeredId}
-use Rattle.commands.proofs.Answering.{failing, passing, at-state, at-name, Addressed, addressed}
-use Rattle.commands.proofs.Refusing.{masks}
-use Rattle.commands.proofs.SourceAnswers.{source-rests, calm-masked}
+use Rattle.commands.proofs.Answering.{at-state, at-name, Addressed, addressed}
+use Rattle.commands.proofs.SourceAnswers.{masking, source-rests, calm-masked}
 use Rattle.commands.proofs.mask.Statement.{statement}
 use Rattle.commands.proofs.mask.Tie as tie
 
 here : (c : tie.Else2) → Addressed (c .before .before .before .before .args .s) (c .before .before .before .before .args .id)
-here c =
-    addressed (c .before .before .before .before .args .s) (c .before .before .before .before .args .id)
-    (passing (c .before .before .before .well-formed .ensures) (c .before .before .if1 .left))
-    (passing (c .before .names-source .ensures) (c .if2 .left))
+here c = addressed (c .before .before .before .well-formed .ensures) (c .before .before .if1 .left) (c .before .names-source .ensures) (c .if2 .left)
 
 well-formed-requires : tie.Need-well-formed-requires
 well-formed-requires c κs = search needs
@@ -27,7 +18,7 @@ refused-requires c κs = search needs
 returns : tie.Need-returns
 returns c =
     let a = c .before .before .before .args in
-    at-state (a .s) (Mask (a .id)) (failing (c .before .before .well-formed .ensures) (c .before .if1 .taken)) (c .refused .ensures)
+    at-state ((masking (a .s) (a .id)) .asks) (c .before .before .well-formed .ensures) (c .before .if1 .taken) (c .refused .ensures)
 
 names-source-requires : tie.Need-names-source-requires
 names-source-requires c κs = search needs
@@ -36,11 +27,10 @@ refused-requires-2 : tie.Need-refused-requires-2
 refused-requires-2 c κs = search needs
 
 returns-2 : tie.Need-returns-2
-unfolding refusalOf
 returns-2 c =
     let a = c .before .before .before .before .before .args in
-    at-name (a .s) (Mask (a .id)) (passing (c .before .before .before .before .well-formed .ensures) (c .before .before .before .if1 .left)) (a .id) 0 refl
-    (failing (c .before .before .names-source .ensures) (c .before .if2 .taken)) (c .refused2 .ensures)
+    at-name ((masking (a .s) (a .id)) .asks) (c .before .before .before .before .well-formed .ensures) (c .before .before .before .if1 .left)
+    (c .before .before .names-source .ensures) (c .before .if2 .taken) (c .refused2 .ensures)
 
 cast-at : tie.Need-cast-at
 cast-at c = search needs
@@ -48,28 +38,29 @@ cast-at c = search needs
 sub-at : tie.Need-sub-at
 sub-at c = (here (c .before)) .some-id
 
-mul-r : tie.Need-mul-r
-mul-r c = search needs
+mul-with-mask : tie.Need-mul-with-mask
+mul-with-mask c = search needs
 
-element-copy-out-r : tie.Need-element-copy-out-r
-element-copy-out-r c = (here (c .before)) .in-array
+element-copy-out-with-mask : tie.Need-element-copy-out-with-mask
+element-copy-out-with-mask c = (here (c .before)) .in-array
 
-mul-r-2 : tie.Need-mul-r-2
-mul-r-2 c = search needs
+with-mask-requires : tie.Need-with-mask-requires
+with-mask-requires c κs = search needs
 
-element-set-from-r : tie.Need-element-set-from-r
-element-set-from-r c = (here (c .before .before)) .in-array
+mul-t12 : tie.Need-mul-t12
+mul-t12 c = search needs
+
+element-set-from-masked : tie.Need-element-set-from-masked
+element-set-from-masked c = (here (c .before .before .before)) .in-array
 
 resting-requires : tie.Need-resting-requires
 resting-requires c κs = search needs
 
 returns-3 : tie.Need-returns-3
-unfolding effect answeredId
 returns-3 c =
-    let a = c .before .before .before .before .before .before .before .args in
-    let h : Addressed (a .s) (a .id) = here (c .before .before .before) in
-    source-rests (a .s) (Mask (a .id)) (a .id) (withMask true) refl refl (h .sound) (masks (a .s) (a .id) h) (h .in-use)
-    (calm-masked (a .s) (a .id .0 - 1)) (c .resting .ensures)
+    let a = c .before .before .before .before .before .before .before .before .args in
+    let h : Addressed (a .s) (a .id) = here (c .before .before .before .before) in
+    source-rests (masking (a .s) (a .id)) h refl (c .before .with-mask .ensures) (calm-masked h) (c .resting .ensures)
 
 pub mask-spec : {M : Type 1} → statement M
 mask-spec =
@@ -83,9 +74,10 @@ mask-spec =
     returns-2
     cast-at
     sub-at
-    mul-r
-    element-copy-out-r
-    mul-r-2
-    element-set-from-r
+    mul-with-mask
+    element-copy-out-with-mask
+    with-mask-requires
+    mul-t12
+    element-set-from-masked
     resting-requires
     returns-3)

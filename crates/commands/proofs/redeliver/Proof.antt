@@ -1,21 +1,13 @@
 -- `commands::redeliver` meets its contract: the deliveries from its effect on are its settling. Assumes nothing.
-use mathlib.Core.Path.{refl}
-use mathlib.Core.Bool.{false}
 use borrow.Author.Needs.{needs}
-use Rattle.model.specs.declared.Command.the-variants.{Redeliver}
-use Rattle.model.specs.Records.{withDelivered}
-use Rattle.model.specs.Commands.{effect, refusalOf, answeredId}
-use Rattle.commands.proofs.Answering.{failing, passing, at-state, at-check, at-name, Addressed, addressed, cores-in-array}
-use Rattle.commands.proofs.Refusing.{redeliver-unclaimed, redelivers}
-use Rattle.commands.proofs.SourceAnswers.{source-begins, source-delivers}
+use Rattle.commands.proofs.Answering.{at-state, at-name, at-later, cores-in-array, Addressed, addressed}
+use Rattle.commands.proofs.Refusing.{unclaimed-refused, is-claimed}
+use Rattle.commands.proofs.SourceAnswers.{redelivering, source-begins, source-delivers}
 use Rattle.commands.proofs.redeliver.Statement.{statement}
 use Rattle.commands.proofs.redeliver.Tie as tie
 
 here : (c : tie.Else2) → Addressed (c .before .before .before .before .args .t1) (c .before .before .before .before .args .id)
-here c =
-    addressed (c .before .before .before .before .args .t1) (c .before .before .before .before .args .id)
-    (passing (c .before .before .before .well-formed .ensures) (c .before .before .if1 .left))
-    (passing (c .before .names-source .ensures) (c .if2 .left))
+here c = addressed (c .before .before .before .well-formed .ensures) (c .before .before .if1 .left) (c .before .names-source .ensures) (c .if2 .left)
 
 well-formed-requires : tie.Need-well-formed-requires
 well-formed-requires c κs = search needs
@@ -26,7 +18,7 @@ refused-requires c κs = search needs
 returns : tie.Need-returns
 returns c =
     let a = c .before .before .before .args in
-    at-state (a .t1) (Redeliver (a .id)) (failing (c .before .before .well-formed .ensures) (c .before .if1 .taken)) (c .refused .ensures)
+    at-state ((redelivering (a .t1) (a .id)) .asks) (c .before .before .well-formed .ensures) (c .before .if1 .taken) (c .refused .ensures)
 
 names-source-requires : tie.Need-names-source-requires
 names-source-requires c κs = search needs
@@ -35,11 +27,10 @@ refused-requires-2 : tie.Need-refused-requires-2
 refused-requires-2 c κs = search needs
 
 returns-2 : tie.Need-returns-2
-unfolding refusalOf
 returns-2 c =
     let a = c .before .before .before .before .before .args in
-    at-name (a .t1) (Redeliver (a .id)) (passing (c .before .before .before .before .well-formed .ensures) (c .before .before .before .if1 .left)) (a .id) _ refl
-    (failing (c .before .before .names-source .ensures) (c .before .if2 .taken)) (c .refused2 .ensures)
+    at-name ((redelivering (a .t1) (a .id)) .asks) (c .before .before .before .before .well-formed .ensures) (c .before .before .before .if1 .left)
+    (c .before .before .names-source .ensures) (c .before .if2 .taken) (c .refused2 .ensures)
 
 cast-at : tie.Need-cast-at
 cast-at c = search needs
@@ -66,29 +57,31 @@ returns-3 : tie.Need-returns-3
 returns-3 c =
     let a = c .before .before .before .before .before .before .before .before .before .before .args in
     let h : Addressed (a .t1) (a .id) = here (c .before .before .before .before .before .before) in
-    at-check (a .t1) (Redeliver (a .id)) (h .sound) 7 (redeliver-unclaimed (a .t1) (a .id) h (c .before .before .is-claimed .ensures) (c .before .if3 .taken)) (c .refused3 .ensures)
+    at-later ((redelivering (a .t1) (a .id)) .asks) (h .sound) (h .named) (unclaimed-refused h (c .before .before .is-claimed .ensures) (c .before .if3 .taken))
+    (c .refused3 .ensures)
 
-mul-r-2 : tie.Need-mul-r-2
-mul-r-2 c = search needs
+with-delivered-requires : tie.Need-with-delivered-requires
+with-delivered-requires c κs = search needs
 
-element-set-from-r : tie.Need-element-set-from-r
-element-set-from-r c = (here (c .before .before .before .before .before)) .in-array
+mul-t14 : tie.Need-mul-t14
+mul-t14 c = search needs
+
+element-set-from-redelivered : tie.Need-element-set-from-redelivered
+element-set-from-redelivered c = (here (c .before .before .before .before .before .before)) .in-array
 
 returns-4 : tie.Need-returns-4
-unfolding effect answeredId
 returns-4 c =
-    let a = c .before .before .before .before .before .before .before .before .before .before .args in
-    let h : Addressed (a .t1) (a .id) = here (c .before .before .before .before .before .before) in
-    source-delivers (a .t1) (Redeliver (a .id)) (a .id) (withDelivered false) refl refl (h .sound)
-    (redelivers (a .t1) (a .id) h (c .before .before .is-claimed .ensures) (c .before .if3 .left)) (c .deliver-all .ensures)
+    let a = c .before .before .before .before .before .before .before .before .before .before .before .args in
+    let h : Addressed (a .t1) (a .id) = here (c .before .before .before .before .before .before .before) in
+    source-delivers (redelivering (a .t1) (a .id)) h (is-claimed h (c .before .before .before .is-claimed .ensures) (c .before .before .if3 .left))
+    (c .before .with-delivered .ensures) (c .deliver-all .ensures)
 
 deliver-all-requires : tie.Need-deliver-all-requires
-unfolding effect answeredId
 deliver-all-requires c κs =
-    let a = c .before .before .before .before .before .before .before .before .before .args in
-    let h : Addressed (a .t1) (a .id) = here (c .before .before .before .before .before) in
-    source-begins (a .t1) (Redeliver (a .id)) (a .id) (withDelivered false) refl refl (h .sound)
-    (redelivers (a .t1) (a .id) h (c .before .is-claimed .ensures) (c .if3 .left))
+    let a = c .before .before .before .before .before .before .before .before .before .before .args in
+    let h : Addressed (a .t1) (a .id) = here (c .before .before .before .before .before .before) in
+    source-begins (redelivering (a .t1) (a .id)) h (is-claimed h (c .before .before .is-claimed .ensures) (c .before .if3 .left))
+    (c .with-delivered .ensures)
 
 pub redeliver-spec : {M : Type 1} → statement M
 redeliver-spec =
@@ -108,7 +101,8 @@ redeliver-spec =
     is-claimed-requires
     refused-requires-3
     returns-3
-    mul-r-2
-    element-set-from-r
+    with-delivered-requires
+    mul-t14
+    element-set-from-redelivered
     deliver-all-requires
     returns-4)

@@ -1,20 +1,13 @@
 -- `commands::trigger` meets its contract: the deliveries from its effect on are its settling. Assumes nothing.
-use mathlib.Core.Path.{refl}
 use borrow.Author.Needs.{needs}
-use Rattle.model.specs.declared.Command.the-variants.{Trigger}
-use Rattle.model.specs.Records.{opened}
-use Rattle.model.specs.Commands.{effect, refusalOf, answeredId}
-use Rattle.commands.proofs.Answering.{failing, passing, at-state, at-check, at-name, Addressed, addressed}
-use Rattle.commands.proofs.Refusing.{trigger-again, triggers}
-use Rattle.commands.proofs.SourceAnswers.{source-begins, source-delivers}
+use Rattle.commands.proofs.Answering.{at-state, at-name, at-later, Addressed, addressed}
+use Rattle.commands.proofs.Refusing.{pending-refused, none-pending}
+use Rattle.commands.proofs.SourceAnswers.{triggering, source-begins, source-delivers}
 use Rattle.commands.proofs.trigger.Statement.{statement}
 use Rattle.commands.proofs.trigger.Tie as tie
 
 here : (c : tie.Else2) → Addressed (c .before .before .before .before .args .t1) (c .before .before .before .before .args .id)
-here c =
-    addressed (c .before .before .before .before .args .t1) (c .before .before .before .before .args .id)
-    (passing (c .before .before .before .well-formed .ensures) (c .before .before .if1 .left))
-    (passing (c .before .names-source .ensures) (c .if2 .left))
+here c = addressed (c .before .before .before .well-formed .ensures) (c .before .before .if1 .left) (c .before .names-source .ensures) (c .if2 .left)
 
 well-formed-requires : tie.Need-well-formed-requires
 well-formed-requires c κs = search needs
@@ -25,7 +18,7 @@ refused-requires c κs = search needs
 returns : tie.Need-returns
 returns c =
     let a = c .before .before .before .args in
-    at-state (a .t1) (Trigger (a .id)) (failing (c .before .before .well-formed .ensures) (c .before .if1 .taken)) (c .refused .ensures)
+    at-state ((triggering (a .t1) (a .id)) .asks) (c .before .before .well-formed .ensures) (c .before .if1 .taken) (c .refused .ensures)
 
 names-source-requires : tie.Need-names-source-requires
 names-source-requires c κs = search needs
@@ -34,11 +27,10 @@ refused-requires-2 : tie.Need-refused-requires-2
 refused-requires-2 c κs = search needs
 
 returns-2 : tie.Need-returns-2
-unfolding refusalOf
 returns-2 c =
     let a = c .before .before .before .before .before .args in
-    at-name (a .t1) (Trigger (a .id)) (passing (c .before .before .before .before .well-formed .ensures) (c .before .before .before .if1 .left)) (a .id) _ refl
-    (failing (c .before .before .names-source .ensures) (c .before .if2 .taken)) (c .refused2 .ensures)
+    at-name ((triggering (a .t1) (a .id)) .asks) (c .before .before .before .before .well-formed .ensures) (c .before .before .before .if1 .left)
+    (c .before .before .names-source .ensures) (c .before .if2 .taken) (c .refused2 .ensures)
 
 cast-at : tie.Need-cast-at
 cast-at c = search needs
@@ -59,28 +51,27 @@ returns-3 : tie.Need-returns-3
 returns-3 c =
     let a = c .before .before .before .before .before .before .before .before .args in
     let h : Addressed (a .t1) (a .id) = here (c .before .before .before .before) in
-    at-check (a .t1) (Trigger (a .id)) (h .sound) 5 (trigger-again (a .t1) (a .id) h (c .before .if3 .taken)) (c .refused3 .ensures)
+    at-later ((triggering (a .t1) (a .id)) .asks) (h .sound) (h .named) (pending-refused (a .t1) (a .id) (c .before .if3 .taken)) (c .refused3 .ensures)
 
-mul-r-2 : tie.Need-mul-r-2
-mul-r-2 c = search needs
+opened-requires : tie.Need-opened-requires
+opened-requires c κs = search needs
 
-element-set-from-r : tie.Need-element-set-from-r
-element-set-from-r c = (here (c .before .before .before)) .in-array
+mul-t13 : tie.Need-mul-t13
+mul-t13 c = search needs
+
+element-set-from-triggered : tie.Need-element-set-from-triggered
+element-set-from-triggered c = (here (c .before .before .before .before)) .in-array
 
 returns-4 : tie.Need-returns-4
-unfolding effect answeredId
 returns-4 c =
-    let a = c .before .before .before .before .before .before .before .before .args in
-    let h : Addressed (a .t1) (a .id) = here (c .before .before .before .before) in
-    source-delivers (a .t1) (Trigger (a .id)) (a .id) opened refl refl (h .sound) (triggers (a .t1) (a .id) h (c .before .if3 .left))
-    (c .deliver-all .ensures)
+    let a = c .before .before .before .before .before .before .before .before .before .args in
+    source-delivers (triggering (a .t1) (a .id)) (here (c .before .before .before .before .before)) (none-pending (a .t1) (a .id) (c .before .before .if3 .left))
+    (c .before .opened .ensures) (c .deliver-all .ensures)
 
 deliver-all-requires : tie.Need-deliver-all-requires
-unfolding effect answeredId
 deliver-all-requires c κs =
-    let a = c .before .before .before .before .before .before .before .args in
-    let h : Addressed (a .t1) (a .id) = here (c .before .before .before) in
-    source-begins (a .t1) (Trigger (a .id)) (a .id) opened refl refl (h .sound) (triggers (a .t1) (a .id) h (c .if3 .left))
+    let a = c .before .before .before .before .before .before .before .before .args in
+    source-begins (triggering (a .t1) (a .id)) (here (c .before .before .before .before)) (none-pending (a .t1) (a .id) (c .before .if3 .left)) (c .opened .ensures)
 
 pub trigger-spec : {M : Type 1} → statement M
 trigger-spec =
@@ -98,7 +89,8 @@ trigger-spec =
     element-copy-out-r
     refused-requires-3
     returns-3
-    mul-r-2
-    element-set-from-r
+    opened-requires
+    mul-t13
+    element-set-from-triggered
     deliver-all-requires
     returns-4)
