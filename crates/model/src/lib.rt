@@ -141,7 +141,7 @@ pub fn source_with(
 }
 
 // The source with another priority for its next request.
-// Rules out: a pending request that takes it over (`request_follows_setting`).
+// Rules out: a pending request that takes it over (`request_follows_setting`); a mask that falls (`setting_unmasks`).
 pub fn with_configured(r: Source, p: u16) -> Source
     ensures { λ s. ⌜ s ≡ withConfigured p r ⌝ }
 {
@@ -157,7 +157,7 @@ pub fn with_mask(r: Source, masked: bool) -> Source
 }
 
 // The source whose request is delivered, or not.
-// Rules out: a request that ends (`redeliver_ends_request`).
+// Rules out: a request that ends (`redeliver_ends_request`); one that takes a new priority (`redeliver_at_configured`).
 pub fn with_delivered(r: Source, delivered: bool) -> Source
     ensures { λ s. ⌜ s ≡ withDelivered delivered r ⌝ }
 {
@@ -173,7 +173,7 @@ pub fn opened(r: Source) -> Source
 }
 
 // The source with no request any more.
-// Rules out: the request's priority left behind (`complete_keeps_priority`).
+// Rules out: the request's priority left behind (`complete_keeps_priority`); the request itself (`complete_keeps_pending`).
 pub fn ended(r: Source) -> Source
     ensures { λ s. ⌜ s ≡ endedOf r ⌝ }
 {
@@ -207,6 +207,7 @@ pub fn empty_box() -> MessageBox
 }
 
 // The core with its box emptied.
+// Rules out: a core that falls (`retraction_lowers_core`) or rises with it (`retraction_raises_core`).
 pub fn emptied(c: Core) -> Core
     ensures { λ r. ⌜ r ≡ coreWith (c .configured) emptyBox ⌝ }
 {
@@ -214,6 +215,7 @@ pub fn emptied(c: Core) -> Core
 }
 
 // The core with a request in its box.
+// Rules out: a dirty box (`delivered_dirty`); a core whose own priority follows (`delivery_sets_core`).
 pub fn filled_with(c: Core, id: SourceId, p: u16) -> Core
     ensures { λ r. ⌜ r ≡ coreWith (c .configured) (holding id p) ⌝ }
 {
@@ -221,6 +223,7 @@ pub fn filled_with(c: Core, id: SourceId, p: u16) -> Core
 }
 
 // The core raised to its box's priority, and the box emptied.
+// Rules out: a core that stays (`claim_leaves_core`); the id taken for the priority (`claim_raises_to_id`).
 pub fn claimed_core(c: Core) -> Core
     ensures { λ r. ⌜ r ≡ claimedCore c ⌝ }
 {
@@ -228,6 +231,7 @@ pub fn claimed_core(c: Core) -> Core
 }
 
 // The core with its box made dirty, if it is filled.
+// Rules out: a core that rises to its box (`soiling_raises_core`); a box that falls to its core (`soiling_lowers_box`).
 pub fn soiled(c: Core) -> Core
     ensures { λ r. ⌜ r ≡ soiledCore c ⌝ }
 {
@@ -244,6 +248,7 @@ pub fn soiled(c: Core) -> Core
 }
 
 // Document 01: "fresh". Any sizes; who asks for a controller checks them first.
+// Rules out: a source of priority 0 (`fresh_priority_zero`); an unmasked one (`fresh_unmasked`).
 pub fn reset(n: u16, m: u16) -> Controller
     ensures { λ r. ⌜ r ≡ resetOf n m ⌝ }
 {
@@ -260,6 +265,7 @@ pub fn reset(n: u16, m: u16) -> Controller
 // ---- what is read off one record
 
 // The top priority, 2^(floor(log2 n) + 2) - 1, from the leading zeros of n.
+// Rules out: another value without sources (`no_sources_top_one`); a width that is one bit short (`top_one_bit_short`).
 pub fn top_priority(n: u16) -> u32
     ensures { λ r. ⌜ r ≡ topPriority n ⌝ }
 {
@@ -271,6 +277,7 @@ pub fn top_priority(n: u16) -> u32
 }
 
 // The box's priority if the box is filled, else the configured one.
+// Rules out: a box that counts only while it is dirty (`current_while_dirty`).
 pub fn current_priority(c: Core) -> u16
     ensures { λ r. ⌜ r ≡ currentPriority c ⌝ }
 {
@@ -282,6 +289,7 @@ pub fn current_priority(c: Core) -> u16
 }
 
 // Pending, not delivered, not masked.
+// Rules out: a delivered request as a candidate (`delivered_is_candidate`); a masked one (`masked_is_candidate`).
 pub fn is_candidate(r: Source) -> bool
     ensures { λ b. ⌜ b ≡ candidate r ⌝ }
 {
@@ -295,6 +303,7 @@ pub fn is_candidate(r: Source) -> bool
 }
 
 // What the comparator compares: 0 for no candidate, else one more than the request's priority.
+// Rules out: the configured priority instead (`rank_by_configured`); a candidate of priority 0 lost (`priority_zero_unranked`).
 pub fn rank(r: Source) -> u32
     ensures { λ k. ⌜ k ≡ rankOf r ⌝ }
 {
