@@ -3,3 +3,4 @@ pub mod Winner
 pub mod Tree
 pub mod Depth
 pub mod Keys
+pub mod ByKeys

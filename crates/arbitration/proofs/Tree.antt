@@ -7,7 +7,7 @@
 use Prim.Native.Nat.{ℕ, suc, _<_, _≤_}
 use mathlib.Core.Path.{_≡_, subst}
 use mathlib.Core.List.{List}
-use mathlib.Core.Bool.{Bool, true, false, cond}
+use mathlib.Core.Bool.{true, false}
 use native.Mathlib.Omega.{arith}
 use lib.ListN.{getD}
 use borrow.Author.Tests.{ltb-true, ltb-false}
@@ -17,7 +17,8 @@ use Rattle.model.specs.Records.{noSource, noCore}
 use Rattle.model.specs.Requests.{currentPriority, candidate}
 use Rattle.model.specs.Arbitration.{rank, higher, highest, highestByWalk, highestId, lower, least}
 use Rattle.model.specs.Statements.{TreeIsWalk, TreeFindsFirst, LeastIsFirst, HighestIdExact}
-use Rattle.model.proofs.Bools.{clash, Flag, on, off, flag}
+use Rattle.model.proofs.Bools.{clash, refuted, confirmed, Flag, on, off, flag}
+use Rattle.model.proofs.Candidates.{rank-candidate, rank-none}
 use Rattle.arbitration.proofs.Winner.{WeakOrder, by-key, converse, FirstIn, first-of, none-above, tree-first, walk-first, tree-walk}
 
 -- ---- the least core
@@ -62,23 +63,9 @@ highest-rank-ge : (l : List Source) (n i : ℕ) → i < n → rank (getD l i noS
 highest-rank-ge l n i h =
     ltb-false _ _ (none-above (higher l) (higher-order l) 0 n (highest l n) (highest-first l n (omega arith)) i (omega arith) (omega arith))
 
--- a number kept under a flag, as a rank and an id are
-kept-on : (b : Bool) (x : ℕ) → b ≡ true → cond b (suc x) 0 ≡ suc x
-kept-on b x p = rw p
-
-kept-off : (b : Bool) (x : ℕ) → b ≡ false → cond b (suc x) 0 ≡ 0
-kept-off b x p = rw p
-
-rank-candidate : (r : Source) → candidate r ≡ true → rank r ≡ suc (r .priority)
-rank-candidate r p = kept-on (candidate r) (r .priority) p
-
 -- what is ranked at least as high as a candidate is one
 candidate-rank-le : (r t : Source) → rank r ≤ rank t → candidate r ≡ true → candidate t ≡ true
-candidate-rank-le r t h p = go (flag (candidate t))
-  where
-    go : Flag (candidate t) → candidate t ≡ true
-    go (on q) = q
-    go (off q) = absurd (omega (arith, rank-candidate r p, kept-off (candidate t) (t .priority) q))
+candidate-rank-le r t h p = confirmed (candidate t) (λ q. omega (arith, rank-candidate r p, rank-none t q))
 
 pub highest-ge : (l : List Source) (n i : ℕ) → i < n → candidate (getD l i noSource) ≡ true → (candidate (getD l (highest l n) noSource) ≡ true) × ((getD l i noSource) .priority ≤ (getD l (highest l n) noSource) .priority)
 highest-ge l n i h p =
@@ -92,32 +79,30 @@ module _ (l : List Source) (n : ℕ) where
   abbrev best : Source
   best = getD l (highest l n) noSource
 
-  id-none : highestId l n ≡ 0 → candidate best ≡ false
+  id-on : candidate best ≡ true → highestId l n ≡ suc (highest l n)
   unfolding highestId
-  id-none e = go (flag (candidate best))
-    where
-      go : Flag (candidate best) → candidate best ≡ false
-      go (on p) = absurd (omega (arith, e, kept-on (candidate best) (highest l n) p))
-      go (off p) = p
+  id-on p = rw p
+
+  id-off : candidate best ≡ false → highestId l n ≡ 0
+  unfolding highestId
+  id-off p = rw p
+
+  id-none : highestId l n ≡ 0 → candidate best ≡ false
+  id-none e = refuted (candidate best) (λ p. omega (arith, id-on p))
 
   id-some : (w : ℕ) → highestId l n ≡ suc w → (highest l n ≡ w) × (candidate best ≡ true)
-  unfolding highestId
   id-some w e = go (flag (candidate best))
     where
       go : Flag (candidate best) → (highest l n ≡ w) × (candidate best ≡ true)
-      go (on p) = (omega (arith, e, kept-on (candidate best) (highest l n) p), p)
-      go (off p) = absurd (omega (arith, e, kept-off (candidate best) (highest l n) p))
+      go (on p) = (omega (arith, id-on p), p)
+      go (off p) = absurd (omega (arith, id-off p))
 
   -- an id names the highest, and that is a candidate
   by-id : (P : ℕ → Type 0) (w : ℕ) → highestId l n ≡ suc w → (candidate best ≡ true → P (highest l n)) → P w
   by-id P w e f = subst P (id-some w e .0) (f (id-some w e .1))
 
   none-candidate : highestId l n ≡ 0 → (i : ℕ) → i < n → candidate (getD l i noSource) ≡ false
-  none-candidate e i h = go (flag (candidate (getD l i noSource)))
-    where
-      go : Flag (candidate (getD l i noSource)) → candidate (getD l i noSource) ≡ false
-      go (on p) = clash (highest-ge l n i h p .0) (id-none e)
-      go (off p) = p
+  none-candidate e i h = refuted (candidate (getD l i noSource)) (λ p. clash (highest-ge l n i h p .0) (id-none e))
 
   -- a candidate of a lower id is strictly below: it would have kept a tie
   earlier-lt : 1 ≤ n → candidate best ≡ true → (i : ℕ) → i < highest l n → candidate (getD l i noSource) ≡ true → (getD l i noSource) .priority < best .priority

@@ -6,11 +6,12 @@
 --   first-unique               a range has one first
 --   node                       two ranges side by side: `winner` of their firsts is the first of both together;
 --                              `node-left` and `node-right` say which, by the comparison
+--   tree-of-one, walk-of-one   a row of at most one
 --   tree-first, walk-first     the comparator tree and the plain walk find it
 --   tree-walk                  so they agree on every row, the empty one too
 -- A weak order does not say who keeps a tie; `FirstIn` does.
 use Prim.Native.Nat.{ℕ, zero, suc, _+_, _/_, _<_, _≤_}
-use mathlib.Core.Path.{_≡_, refl, subst}
+use mathlib.Core.Path.{_≡_, refl, sym, subst}
 use mathlib.Core.Bool.{Bool, true, false, cond}
 use native.Mathlib.Omega.{arith}
 use native.Mathlib.Decide.{decLt}
@@ -18,7 +19,7 @@ use lib.Dec.{ltb}
 use borrow.Author.Tests.{ltb-true, ltb-false, le-ltb}
 use Rattle.model.specs.Walks.{winner, walk, leftHalf, tree}
 use Rattle.model.specs.Statements.{FirstOf}
-use Rattle.model.proofs.Bools.{clash, Flag, on, off, flag}
+use Rattle.model.proofs.Bools.{clash, refuted, confirmed}
 
 -- ---- weak orders
 
@@ -65,13 +66,26 @@ pub first-unique : (above : ℕ → ℕ → Bool) (lo len v w : ℕ) → FirstIn
 first-unique above lo len v w f g =
     omega (arith, not-earlier above lo len v w f g, not-earlier above lo len w v g f)
 
+-- ---- rows of at most one, whatever the order
+
+pub tree-of-one : (above : ℕ → ℕ → Bool) (d lo len : ℕ) → len ≤ 1 → lo ≡ tree above d lo len
+unfolding tree
+tree-of-one above zero lo len h = refl
+tree-of-one above (suc d) lo len h = rw (le-ltb 1 len h)
+
+pub walk-of-one : (above : ℕ → ℕ → Bool) → 0 ≡ walk above 1
+unfolding walk
+walk-of-one above = go (above 0 0)
+  where
+    go : (t : Bool) → _≡_ {A = ℕ} 0 (cond t 0 0)
+    go true = refl
+    go false = refl
+
+-- ---- the comparator tree and the plain walk
+
 module _ (above : ℕ → ℕ → Bool) (order : WeakOrder above) where
   irreflexive : (i : ℕ) → above i i ≡ false
-  irreflexive i = go (flag (above i i))
-    where
-      go : Flag (above i i) → above i i ≡ false
-      go (on p) = order .asym i i p
-      go (off p) = p
+  irreflexive i = refuted (above i i) (λ p. clash p (order .asym i i p))
 
   -- a range of one
   single : (lo len : ℕ) → len ≡ 1 → FirstIn above lo len lo
@@ -92,11 +106,7 @@ module _ (above : ℕ → ℕ → Bool) (order : WeakOrder above) where
 
   -- y above x is above whatever is not above x
   above-through : (x y j : ℕ) → above y x ≡ true → above j x ≡ false → above y j ≡ true
-  above-through x y j p q = go (flag (above y j))
-    where
-      go : Flag (above y j) → above y j ≡ true
-      go (on r) = r
-      go (off r) = clash p (order .negative-trans y j x r q)
+  above-through x y j p q = confirmed (above y j) (λ r. clash p (order .negative-trans y j x r q))
 
   module _ (lo a mid b len x y : ℕ) (e : mid ≡ lo + a) (s : a + b ≡ len) (f : FirstIn above lo a x) (g : FirstIn above mid b y) where
     -- y is above x, and so above all of the left range
@@ -127,7 +137,7 @@ module _ (above : ℕ → ℕ → Bool) (order : WeakOrder above) where
         go j h r (yes u) = f .after j h (omega arith)
         go j h r (no u) = order .negative-trans j y x (none-above mid b y g j (omega arith) (omega arith)) p
 
-    pub node : FirstIn above lo len (winner above x y)
+    node : FirstIn above lo len (winner above x y)
     node = go (above y x) refl
       where
         go : (t : Bool) → above y x ≡ t → FirstIn above lo len (cond t y x)
@@ -153,23 +163,14 @@ module _ (above : ℕ → ℕ → Bool) (order : WeakOrder above) where
   pub walk-first : (n : ℕ) → 1 ≤ n → FirstIn above 0 n (walk above n)
   unfolding walk
   walk-first zero h = absurd (omega arith)
-  walk-first (suc zero) h = go (above 0 0)
-    where
-      go : (t : Bool) → FirstIn above 0 1 (cond t 0 0)
-      go true = single 0 1 refl
-      go false = single 0 1 refl
+  walk-first (suc zero) h = subst (FirstIn above 0 1) (walk-of-one above) (single 0 1 refl)
   walk-first (suc (suc k)) h =
       node 0 (suc k) (suc k) 1 (suc (suc k)) (walk above (suc k)) (suc k) (omega arith) (omega arith)
       (walk-first (suc k) (omega arith)) (single (suc k) 1 refl)
 
-  empty-tree : (d : ℕ) → tree above d 0 0 ≡ 0
-  unfolding tree
-  empty-tree zero = refl
-  empty-tree (suc d) = refl
-
   pub tree-walk : (d n : ℕ) → n ≤ d → tree above d 0 n ≡ walk above n
   unfolding walk
-  tree-walk d zero h = empty-tree d
+  tree-walk d zero h = sym (tree-of-one above d 0 0 (omega arith))
   tree-walk d (suc n) h =
       first-unique above 0 (suc n) (tree above d 0 (suc n)) (walk above (suc n))
       (tree-first d 0 (suc n) (omega arith) h) (walk-first (suc n) (omega arith))

@@ -1,10 +1,9 @@
 -- On a sound state the claim of a core's record is the command claim, with its number and id. Assumes nothing.
--- A sound state's filled boxes can be claimed: a state of n sources has no priority above that of 128.
-use Prim.Native.Nat.{ℕ, suc, _+_, _^_, _<_, _≤_}
+-- A sound state's filled boxes can be claimed: with n sources no priority reaches 4n, and 511 is the top priority of 128.
+use Prim.Native.Nat.{_<_, _≤_}
 use mathlib.Core.Path.{_≡_, refl, sym, ap, _∙_}
 use mathlib.Core.Bool.{true, false, not}
 use native.Mathlib.Omega.{arith}
-use native.Mathlib.Nat.{pow-suc}
 use lib.ListN.{length}
 use lib.Seq.{getD-set-same}
 use borrow.Author.Tests.{lt-ltb}
@@ -14,27 +13,19 @@ use Rattle.model.specs.declared.Controller.{Controller}
 use Rattle.model.specs.declared.Answer.{Answer}
 use Rattle.model.specs.declared.Taken.{Taken}
 use Rattle.model.specs.declared.Command.the-variants.{Claim}
-use Rattle.model.specs.Records.{maxSources, noCore, coreAt, withCore, taken}
-use Rattle.model.specs.Priorities.{floorLog2, priorityWidth, topPriority}
+use Rattle.model.specs.Records.{noCore, coreAt, withCore, taken}
+use Rattle.model.specs.Priorities.{topPriority}
 use Rattle.model.specs.WellFormed.{WellFormed, Backed}
 use Rattle.model.specs.Commands.{claimedCore, nothingToClaim, refusalOf, refusal, refused, execute}
 use Rattle.model.specs.Borrowed.{claimable, takenFrom, LentClaimIsCommand}
 use Rattle.model.proofs.Bools.{not-in, Flag, on, off, flag}
-use Rattle.model.proofs.Priorities.{floor-log2-exact}
+use Rattle.model.proofs.Priorities.{top-lt}
 use Rattle.soundness.proofs.Test.{wellFormed-in}
 use Rattle.guarantees.proofs.Accepted.{execute-refused}
 use Rattle.guarantees.proofs.AtRest.{claim-answer}
 use Rattle.guarantees.proofs.CoreEffects.{box-range}
 use Rattle.guarantees.proofs.Effects.{wellFormed-consistent}
 use Rattle.borrowed.proofs.Claims.{clean-only, taken-empty, taken-good}
-
--- no more sources, no higher top
-top-within : (n : ℕ) → 1 ≤ n → n ≤ maxSources → topPriority n ≤ 511
-unfolding topPriority priorityWidth
-top-within n h g =
-    let k : ℕ = floorLog2 n in
-    let e : k + 2 ≡ suc (suc k) = omega arith in
-    omega (arith, floor-log2-exact n h (omega arith) .0, ap (λ (i : ℕ). 2 ^ i) e, pow-suc 2 k, pow-suc 2 (suc k))
 
 module _ (s : Controller) (k : CoreId) (w : WellFormed s) (k-lt : k .0 < s .m) where
   abbrev c : Core
@@ -64,7 +55,7 @@ module _ (s : Controller) (k : CoreId) (w : WellFormed s) (k-lt : k .0 < s .m) w
     can-claim =
         let b : Backed s c = w .backed (k .0) k-lt filled in
         let (low, high) = box-range s (wellFormed-consistent s w) (k .0) k-lt filled in
-        let top : topPriority (s .n) ≤ 511 = top-within (s .n) (w .some-source) (w .n-le) in
+        let top : topPriority (s .n) ≤ 511 = omega (arith, top-lt (s .n) (w .some-source) (omega (arith, w .n-le)), w .n-le) in
         sym (clean-only c (b .some-id) (omega arith) low (omega arith) (b .above)) ∙ not-in (w .clean (k .0) k-lt)
 
     full : takenFrom c ≡ left (execute s (Claim k))

@@ -16,7 +16,8 @@ use Rattle.model.specs.Commands.{badSize}
 use Rattle.model.specs.Borrowed.{foundIn, foundByWalk, FoundIsWalk}
 use Rattle.arbitration.specs.Keys.{HighestKey}
 use Rattle.arbitration.proofs.Tree.{tree-is-walk}
-use Rattle.arbitration.proofs.Keys.{highest-by-keys, highest-inside}
+use Rattle.arbitration.proofs.Keys.{highest-inside}
+use Rattle.arbitration.proofs.ByKeys.{highest-by-keys}
 use Rattle.borrowed.specs.Keys.{readOf, RanksOf, PositionByKeys, FoundByKeys}
 
 -- ---- how many are read

@@ -15,7 +15,7 @@ use mathlib.Core.Path.{_≡_, refl, sym, ap, _∙_}
 use mathlib.Core.Bool.{Bool, true, false, not}
 use native.Mathlib.Omega.{arith}
 use lib.Dec.{leb}
-use borrow.Author.Tests.{ltb-true, le-leb}
+use borrow.Author.Tests.{ltb-true, le-leb, not-true, not-false}
 use Rattle.model.specs.declared.SourceId.{SourceId}
 use Rattle.model.specs.declared.CoreId.{CoreId}
 use Rattle.model.specs.declared.Controller.{Controller}
@@ -26,7 +26,6 @@ use Rattle.model.specs.Records.{maxSources, maxCores, coreAt, reset, answer}
 use Rattle.model.specs.Priorities.{topPriority}
 use Rattle.model.specs.WellFormed.{between, sizesInRange, wellFormed, WellFormed}
 use Rattle.model.specs.Commands.{unless, namesSource, namesCore, effect, refusalOf, refusal, answeredId, settled, refused, execute, make}
-use Rattle.model.proofs.Bools.{not-out, not-not}
 use Rattle.soundness.proofs.Exact.{between-exact}
 use Rattle.soundness.proofs.Test.{wellFormed-out}
 use Rattle.guarantees.proofs.Accepted.{execute-accepted, execute-refused}
@@ -35,10 +34,10 @@ use Rattle.guarantees.proofs.Accepted.{execute-accepted, execute-refused}
 
 module _ {w b : Bool} (is : w ≡ b) where
   pub failing : not w ≡ true → b ≡ false
-  failing e = sym is ∙ not-out w e
+  failing e = sym is ∙ not-true w e
 
   pub passing : not w ≡ false → b ≡ true
-  passing e = sym is ∙ not-not w e
+  passing e = sym is ∙ not-false w e
 
 pub unnamed-zero : (n id : ℕ) → id ≡ 0 → false ≡ between 1 n id
 unnamed-zero n id e = rw e

@@ -13,12 +13,11 @@ use lib.ListN.{length, getD, set, length-map}
 use native.Mathlib.Numerals.{add-one}
 use native.Mathlib.Nat.{not-suc-le-zero}
 use native.Mathlib.Omega.{arith}
-use borrow.Author.Tests.{ne-eqb}
+use borrow.Author.Tests.{ne-eqb, not-true, not-false}
 use Rattle.model.specs.declared.Core.{Core}
 use Rattle.model.specs.Records.{noCore}
 use Rattle.model.specs.Walks.{some}
 use Rattle.model.specs.Requests.{holds, boxed}
-use Rattle.model.proofs.Bools.{not-out, not-not}
 
 pub unmapped : {A B : Type 0} (f : A → B) (l : List A) (n : ℕ) → length (map f l) ≡ n → length l ≡ n
 unmapped f l n e = rw length-map at e
@@ -46,13 +45,13 @@ unboxed-all l k m id p q e = let same : m ≡ k = omega arith in rw (same, e)
 
 module _ (pending delivered in-box : Bool) where
   pub not-pending : not pending ≡ true → false ≡ pending && delivered && not in-box
-  not-pending e = rw (not-out pending e)
+  not-pending e = rw (not-true pending e)
 
   pub not-delivered : not pending ≡ false → not delivered ≡ true → false ≡ pending && delivered && not in-box
-  not-delivered p e = rw (not-not pending p, not-out delivered e)
+  not-delivered p e = rw (not-false pending p, not-true delivered e)
 
   pub in-no-box : not pending ≡ false → not delivered ≡ false → {r : Bool} → r ≡ in-box → not r ≡ pending && delivered && not in-box
-  in-no-box p d e = rw (not-not pending p, not-not delivered d, e)
+  in-no-box p d e = rw (not-false pending p, not-false delivered d, e)
 
 -- ---- changing each element
 

@@ -12,7 +12,7 @@ use native.Mathlib.Omega.{arith}
 use native.Mathlib.Nat.{not-suc-le-zero}
 use native.Mathlib.Numerals.{sub-one}
 use lib.Dec.{leb}
-use borrow.Author.Tests.{le-leb, lt-leb}
+use borrow.Author.Tests.{le-leb, lt-leb, not-true, not-false}
 use Rattle.model.specs.declared.SourceId.{SourceId}
 use Rattle.model.specs.declared.CoreId.{CoreId}
 use Rattle.model.specs.declared.Controller.{Controller}
@@ -20,7 +20,6 @@ use Rattle.model.specs.Records.{indexOf, sourceId, sourceAt, coreAt}
 use Rattle.model.specs.Requests.{boxed, claimed}
 use Rattle.model.specs.WellFormed.{between}
 use Rattle.model.specs.Commands.{unless}
-use Rattle.model.proofs.Bools.{not-out, not-not}
 use Rattle.soundness.proofs.Exact.{between-exact}
 use Rattle.commands.proofs.Answering.{failing, passing, Addressed}
 
@@ -73,7 +72,7 @@ module _ {s : Controller} {id : SourceId} (h : Addressed s id) {taken : Bool} (i
 
 module _ (s : Controller) (k : CoreId) where
   pub empty-refused : not ((coreAt s (k .0)) .message .filled) ≡ true → unless ((coreAt s (k .0)) .message .filled) 7 0 ≡ 7
-  empty-refused e = rw (not-out ((coreAt s (k .0)) .message .filled) e)
+  empty-refused e = rw (not-true ((coreAt s (k .0)) .message .filled) e)
 
   pub box-filled : not ((coreAt s (k .0)) .message .filled) ≡ false → unless ((coreAt s (k .0)) .message .filled) 7 0 ≡ 0
-  box-filled e = rw (not-not ((coreAt s (k .0)) .message .filled) e)
+  box-filled e = rw (not-false ((coreAt s (k .0)) .message .filled) e)

@@ -23,11 +23,11 @@ use Rattle.model.specs.Requests.{currentPriority, waiting, candidate, claimed}
 use Rattle.model.specs.WellFormed.{between, WellFormed}
 use Rattle.model.specs.Commands.{unless, namesSource, effect, refusalOf, answeredId, settled, execute}
 use Rattle.model.proofs.Bools.{and-r, clash}
+use Rattle.model.proofs.Writes.{read-set}
 use Rattle.soundness.proofs.Test.{wellFormed-out}
 use Rattle.settling.specs.Phases.{Consistent, Delivering}
 use Rattle.settling.specs.Runs.{AfterDeliveries}
 use Rattle.settling.proofs.Next.{Settled}
-use Rattle.guarantees.proofs.Writes.{read-set}
 use Rattle.guarantees.proofs.Effects.{effect-consistent}
 use Rattle.guarantees.proofs.AtRest.{still, unmoved, delivered}
 use Rattle.commands.proofs.Answering.{Asks, passes, answers, Addressed}

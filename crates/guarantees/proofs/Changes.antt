@@ -19,10 +19,10 @@ use Rattle.model.specs.WellFormed.{WellFormed}
 use Rattle.model.specs.Settling.{settle}
 use Rattle.model.specs.Commands.{soiled, claimedCore, effect, refusal, settled, refused, execute}
 use Rattle.model.specs.Statements.{pendingAfter, PendingChanges, configuredAfter, ConfiguredChanges}
+use Rattle.model.proofs.Writes.{read-kept, read-written}
 use Rattle.settling.proofs.Keeps.{settle-keeps}
 use Rattle.guarantees.proofs.Accepted.{by-answer}
 use Rattle.guarantees.proofs.Checked.{Named, Checked, accepted}
-use Rattle.guarantees.proofs.Writes.{read-kept, read-written}
 
 -- What settling keeps is after a command what the effect makes of it, or what it was if the command is refused.
 module _ {A : Type 0} (read : Controller → A) (kept : (f : ℕ) (s : Controller) → read (settle f s) ≡ read s) where
@@ -36,7 +36,7 @@ module _ {A : Type 0} (read : Controller → A) (kept : (f : ℕ) (s : Controlle
 module _ (s : Controller) (sound : WellFormed s) where
   module _ (id : SourceId) (h : Named s id) (i : ℕ) (r : Source) where
     pending-kept : r .pending ≡ (sourceAt s (indexOf id)) .pending → (sourceAt (withSource s (indexOf id) r) i) .pending ≡ (sourceAt s i) .pending
-    pending-kept e = read-kept (λ j x. x .pending) (s .sources) (pred (id .0)) i r noSource (omega arith) e
+    pending-kept e = read-kept (λ j x. x .pending) (s .sources) (pred (id .0)) i r noSource e
 
     pending-written : (sourceAt (withSource s (indexOf id) r) i) .pending ≡ cond (eqb (id .0) (suc i)) (r .pending) ((sourceAt s i) .pending)
     pending-written =

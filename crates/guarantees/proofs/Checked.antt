@@ -10,7 +10,7 @@ use mathlib.Core.Path.{_≡_, refl}
 use mathlib.Core.Bool.{Bool, true, false, not}
 use lib.Dec.{leb}
 use native.Mathlib.Omega.{arith}
-use borrow.Author.Tests.{ltb-true, leb-true}
+use borrow.Author.Tests.{ltb-true, leb-true, not-true}
 use Rattle.model.specs.declared.SourceId.{SourceId}
 use Rattle.model.specs.declared.Controller.{Controller}
 use Rattle.model.specs.declared.Command.{Command}
@@ -20,7 +20,6 @@ use Rattle.model.specs.Priorities.{topPriority}
 use Rattle.model.specs.Requests.{claimed}
 use Rattle.model.specs.WellFormed.{between, wellFormed, WellFormed}
 use Rattle.model.specs.Commands.{unless, namesSource, namesCore, refusalOf, refusal}
-use Rattle.model.proofs.Bools.{not-out}
 use Rattle.soundness.proofs.Exact.{between-exact}
 use Rattle.soundness.proofs.Test.{wellFormed-out}
 
@@ -75,7 +74,7 @@ checked s (SetCorePriority k p) e =
     (ltb-true (k .0) (s .m) a, leb-true p (topPriority (s .n)) b)
 checked s (Trigger id) e =
     let (a, b) = both (namesSource s id) (not ((sourceAt s (indexOf id)) .pending)) 3 5 e in
-    (named s id a, not-out ((sourceAt s (indexOf id)) .pending) b)
+    (named s id a, not-true ((sourceAt s (indexOf id)) .pending) b)
 checked s (Claim k) e =
     let (a, b) = both (namesCore s k) ((coreAt s (k .0)) .message .filled) 2 6 e in
     (ltb-true (k .0) (s .m) a, b)

@@ -18,9 +18,9 @@ use Rattle.model.specs.Priorities.{topPriority}
 use Rattle.model.specs.Requests.{currentPriority}
 use Rattle.model.specs.Commands.{soiled, claimedCore}
 use Rattle.model.proofs.Bools.{clash}
+use Rattle.model.proofs.Writes.{read-set}
 use Rattle.settling.specs.Phases.{Consistent, Holding, AllDirty, Delivering}
 use Rattle.guarantees.proofs.Checked.{InTop}
-use Rattle.guarantees.proofs.Writes.{read-set}
 
 pub record Carried (c d : Core) : Type 0 where
   pub filled : c .message .filled ≡ true

@@ -1,7 +1,6 @@
 -- What is proved here, for the crates above.
 pub mod Accepted
 pub mod Checked
-pub mod Writes
 pub mod Owners
 pub mod SourceEffects
 pub mod CoreEffects

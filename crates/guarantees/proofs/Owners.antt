@@ -4,16 +4,17 @@
 use Prim.Native.Nat.{ℕ, suc, pred}
 use mathlib.Core.Path.{_≡_, refl, sym, _∙_, ap}
 use mathlib.Core.Bool.{Bool, true, false, not}
+use borrow.Author.Tests.{not-true}
 use Rattle.model.specs.declared.Controller.{Controller}
 use Rattle.model.specs.Records.{indexOf, sourceAt, coreAt}
 use Rattle.model.specs.Requests.{boxed, claimed, Owner, bySource, byBox, bySoftware, Owns}
 use Rattle.model.specs.WellFormed.{WellFormed, Backed}
 use Rattle.model.specs.Statements.{OneOwner}
-use Rattle.model.proofs.Bools.{and-in, and-l, and-r, not-in, not-out, Flag, on, off, flag}
+use Rattle.model.proofs.Bools.{and-in, and-l, and-r, not-in, Flag, on, off, flag}
 use Rattle.model.proofs.Boxes.{holds-filled, holds-source, boxed-in, boxed-out}
 
 pub claimed-out : (s : Controller) (i : ℕ) → claimed s i ≡ true → ((sourceAt s i) .pending ≡ true) × ((sourceAt s i) .delivered ≡ true) × (boxed (s .cores) (s .m) (suc i) ≡ false)
-claimed-out s i e = search (and-l, and-r, not-out) depth 8
+claimed-out s i e = search (and-l, and-r, not-true) depth 8
 
 module _ (s : Controller) (sound : WellFormed s) (i : ℕ) where
   abbrev pending : Bool
@@ -45,7 +46,7 @@ module _ (s : Controller) (sound : WellFormed s) (i : ℕ) where
     taken : Standing bySoftware true false
 
   standing : (o : Owner) → Owns s i o → Standing o delivered inBox
-  standing bySource h = rw (not-out delivered (and-r pending (not delivered) h)) (waits inBox)
+  standing bySource h = rw (not-true delivered (and-r pending (not delivered) h)) (waits inBox)
   standing (byBox k) h = rw ((held k h) .1, boxed-in (s .cores) (s .m) (suc i) k (h .0) (h .1)) (lies k h)
   standing bySoftware h = let (p, d, b) = claimed-out s i h in rw (d, b) taken
 

@@ -15,10 +15,10 @@ use Rattle.model.specs.Priorities.{topPriority}
 use Rattle.model.specs.Requests.{holds, claimed}
 use Rattle.model.proofs.Bools.{clash}
 use Rattle.model.proofs.Boxes.{holds-in, holds-filled, holds-source, unboxed-out}
+use Rattle.model.proofs.Writes.{read-set}
 use Rattle.settling.specs.Phases.{Consistent, Holding}
 use Rattle.guarantees.proofs.Checked.{InTop}
 use Rattle.guarantees.proofs.Owners.{claimed-out}
-use Rattle.guarantees.proofs.Writes.{read-set}
 
 -- As far as a box goes: r is pending, delivered and of the same priority if q is.
 abbrev pub SameRequest : Source → Source → Type 0

@@ -1,39 +1,27 @@
 -- The two commands that write one core keep the match between ledger and state, before settling. Assumes nothing.
 --   core-priority-matches    set core priority: every box keeps what it holds, so no request is claimed or given up
 --   claim-matches            the box's request becomes claimed, and the core rises to the priority that the ledger has for it
-use Prim.Native.Nat.{ℕ, zero, suc, _<_}
+use Prim.Native.Nat.{ℕ, suc, _<_}
 use mathlib.Core.Path.{_≡_, refl, sym, _∙_}
 use mathlib.Core.Logic.{_≢_}
-use mathlib.Core.List.{List}
-use mathlib.Core.Bool.{Bool, true, false}
+use mathlib.Core.Bool.{true, false}
 use native.Mathlib.Omega.{arith}
 use native.Mathlib.Decide.{ℕ-discrete}
-use lib.ListN.{length, getD, set, List·getD-map}
+use lib.ListN.{length, set, List·getD-map}
 use borrow.Author.Tests.{eq-eqb, ne-eqb}
 use Rattle.model.specs.declared.Core.{Core}
 use Rattle.model.specs.declared.Controller.{Controller}
 use Rattle.model.specs.Records.{noCore, coreWith, sourceAt, coreAt, withCores, withCore}
-use Rattle.model.specs.Walks.{some}
 use Rattle.model.specs.Requests.{holds, boxed}
 use Rattle.model.specs.WellFormed.{WellFormed, Backed}
 use Rattle.model.specs.Commands.{soiled, claimedCore}
 use Rattle.model.specs.Ledger.{Ledger, claimedRequest, priorityOf, write, writeCore, writeRequest}
-use Rattle.model.proofs.Bools.{Flag, on, off, flag}
-use Rattle.model.proofs.Boxes.{holds-filled, holds-source, unboxed-in}
-use Rattle.guarantees.proofs.Writes.{read-set, read-kept, read-written}
+use Rattle.model.proofs.Bools.{refuted}
+use Rattle.model.proofs.Boxes.{holds-filled, holds-source, unboxed-in, boxed-agree}
+use Rattle.model.proofs.Writes.{read-set, read-kept, read-written}
 use Rattle.guarantees.proofs.CoreEffects.{claimedCores, setCores}
 use Rattle.ledger.specs.Matches.{Matches, requestOf}
 use Rattle.ledger.proofs.Requests.{pending-priority}
-
-some-agree : (m : ℕ) (f g : ℕ → Bool) → ((k : ℕ) → k < m → f k ≡ g k) → some m f ≡ some m g
-unfolding some
-some-agree zero f g h = refl
-some-agree (suc k) f g h = rw (some-agree k f g (λ j p. h j (omega arith)), h k (omega arith))
-
--- the same ids are boxed where the boxes hold the same
-boxed-agree : (l l′ : List Core) (m id : ℕ) → ((k : ℕ) → k < m → holds id (getD l k noCore) ≡ holds id (getD l′ k noCore)) → boxed l m id ≡ boxed l′ m id
-unfolding boxed
-boxed-agree l l′ m id h = some-agree m (λ k. holds id (getD l k noCore)) (λ k. holds id (getD l′ k noCore)) h
 
 module _ (n m : ℕ) (b : Ledger) (s : Controller) (M : Matches n m b s) (W : WellFormed s) (k : ℕ) (named : k < m) where
   inside : k < length (s .cores)
@@ -51,7 +39,7 @@ module _ (n m : ℕ) (b : Ledger) (s : Controller) (M : Matches n m b s) (W : We
     soiled-boxed : (id : ℕ) → boxed (setCores s k p) (s .m) id ≡ boxed (s .cores) (s .m) id
     soiled-boxed id =
         boxed-agree (setCores s k p) (s .cores) (s .m) id
-        (λ j h. rw (List·getD-map soiled (set (s .cores) k rewritten) j noCore) (read-kept (λ x c. holds id c) (s .cores) k j rewritten noCore inside refl))
+        (λ j h. rw (List·getD-map soiled (set (s .cores) k rewritten) j noCore) (read-kept (λ x c. holds id c) (s .cores) k j rewritten noCore refl))
 
     pub core-priority-matches : Matches n m (writeCore k p b) (withCores s (setCores s k p))
     core-priority-matches =
@@ -83,12 +71,9 @@ module _ (n m : ℕ) (b : Ledger) (s : Controller) (M : Matches n m b s) (W : We
 
     -- no other box names the source
     not-elsewhere : (j : ℕ) → j < s .m → j ≢ k → holds (suc i) (coreAt s j) ≡ false
-    not-elsewhere j h apart = go (flag (holds (suc i) (coreAt s j)))
-      where
-        go : Flag (holds (suc i) (coreAt s j)) → holds (suc i) (coreAt s j) ≡ false
-        go (on e) =
-            absurd (apart (W .distinct j k h (omega arith) (holds-filled (suc i) (coreAt s j) e) filled (holds-source (suc i) (coreAt s j) e ∙ sym names)))
-        go (off e) = e
+    not-elsewhere j h apart =
+        refuted (holds (suc i) (coreAt s j))
+        (λ e. apart (W .distinct j k h (omega arith) (holds-filled (suc i) (coreAt s j) e) filled (holds-source (suc i) (coreAt s j) e ∙ sym names)))
 
     unboxed : boxed (claimedCores s k) (s .m) (suc i) ≡ false
     unboxed =
@@ -98,7 +83,7 @@ module _ (n m : ℕ) (b : Ledger) (s : Controller) (M : Matches n m b s) (W : We
     others-boxed : (j : ℕ) → j ≢ i → boxed (claimedCores s k) (s .m) (suc j) ≡ boxed (s .cores) (s .m) (suc j)
     others-boxed j apart =
         boxed-agree (claimedCores s k) (s .cores) (s .m) (suc j)
-        (λ x h. read-kept (λ y c. holds (suc j) c) (s .cores) k x (claimedCore (coreAt s k)) noCore inside (rw (filled, names, ne-eqb (suc i) (suc j) (omega arith))))
+        (λ x h. read-kept (λ y c. holds (suc j) c) (s .cores) k x (claimedCore (coreAt s k)) noCore (rw (filled, names, ne-eqb (suc i) (suc j) (omega arith))))
 
     request-claimed : (j : ℕ) → j < n → write (b .request) (suc i) (claimedRequest (priorityOf (b .request (suc i)))) (suc j) ≡ requestOf (withCores s (claimedCores s k)) j
     request-claimed j h = go (ℕ-discrete j i)

@@ -1,6 +1,6 @@
 -- No placement reaches a threshold more often than the collection does. Assumes nothing.
 --   offered             the priority of a request that competes, as a list of one number; no number for another
---   collection-reach    the count over the collection: the cores' configured priorities, and what each source offers
+--   collection-count    the count over the collection: the cores' configured priorities, and what each source offers
 --   Competing           what it takes to compete, in parts
 use Prim.Native.Nat.{ℕ, zero, suc, _+_, _≤_, _<_}
 use mathlib.Core.Path.{_≡_, refl, sym, _∙_}
@@ -14,16 +14,17 @@ use Rattle.model.specs.declared.Controller.{Controller}
 use Rattle.model.specs.Requests.{boxed}
 use Rattle.model.specs.Ledger.{Ledger, isOpen, row, competes, requestPriority, collection, Placement, given}
 use Rattle.model.proofs.Bools.{and-in, and-l, and-r}
-use Rattle.ledger.proofs.Counting.{total, total-le, total-add, Sent, nowhere, to, total-sent, reach, reach-append, reach-gather, row-length}
+use Rattle.model.proofs.Counting.{total, total-le, total-add, reach, reached}
+use Rattle.ledger.proofs.Counting.{Sent, nowhere, to, total-sent, count, count-append, count-gather, count-row, row-length}
 
 abbrev pub offered : ℕ → ℕ → Ledger → Controller → ℕ → List ℕ
 offered n m b s i = cond (competes n m b s (suc i)) (requestPriority b (suc i) ∷ []) []
 
-pub collection-reach :
+pub collection-count :
     (t n m : ℕ) (b : Ledger) (s : Controller) →
-    reach t (collection n m b s) ≡ total m (λ k. reach t (b .core k ∷ [])) + total n (λ i. reach t (offered n m b s i))
+    count t (collection n m b s) ≡ reached m t (b .core) + total n (λ i. count t (offered n m b s i))
 unfolding collection
-collection-reach t n m b s = simp (reach-append, reach-gather)
+collection-count t n m b s = simp (count-append, count-row, count-gather)
 
 pub collection-length : (n m : ℕ) (b : Ledger) (s : Controller) → m ≤ length (collection n m b s)
 unfolding collection
@@ -47,15 +48,15 @@ module _ (n m : ℕ) (b : Ledger) (s : Controller) (id : ℕ) where
 module _ (t n m : ℕ) (b : Ledger) (s : Controller) (P : ℕ → ℕ) (p : Placement n m b s P) where
   -- what the request with an id counts; id 0 is none
   abbrev worth : ℕ → ℕ
-  worth id = cond (ltb 0 id) (reach t (requestPriority b id ∷ [])) 0
+  worth id = cond (ltb 0 id) (reach t (requestPriority b id)) 0
 
-  given-le : (k : ℕ) → reach t (given b P k ∷ []) ≤ reach t (b .core k ∷ []) + worth (P k)
+  given-le : (k : ℕ) → reach t (given b P k) ≤ reach t (b .core k) + worth (P k)
   given-le k = go (ltb 0 (P k))
     where
       go :
           (placed : Bool) →
-          reach t (cond placed (requestPriority b (P k)) (b .core k) ∷ []) ≤
-          reach t (b .core k ∷ []) + cond placed (reach t (requestPriority b (P k) ∷ [])) 0
+          reach t (cond placed (requestPriority b (P k)) (b .core k)) ≤
+          reach t (b .core k) + cond placed (reach t (requestPriority b (P k))) 0
       go true = omega arith
       go false = omega arith
 
@@ -66,19 +67,20 @@ module _ (t n m : ℕ) (b : Ledger) (s : Controller) (P : ℕ → ℕ) (p : Plac
   uses-apart : (j k i : ℕ) → Uses j i → Uses k i → j ≡ k
   uses-apart j k i x y = p .once j k (x .0) (y .0) (omega (arith, x .1)) (x .1 ∙ sym (y .1))
 
-  sent : (k : ℕ) → k < m → Sent n (λ i. reach t (offered n m b s i)) (Uses k) (worth (P k))
+  sent : (k : ℕ) → k < m → Sent n (λ i. count t (offered n m b s i)) (Uses k) (worth (P k))
+  unfolding count
   sent k below = go (P k) refl
     where
-      go : (id : ℕ) → P k ≡ id → Sent n (λ i. reach t (offered n m b s i)) (Uses k) (worth id)
+      go : (id : ℕ) → P k ≡ id → Sent n (λ i. count t (offered n m b s i)) (Uses k) (worth id)
       go zero e = nowhere refl
       go (suc i) e =
           let c : competes n m b s (suc i) ≡ true = rw e at (p .placed k below (omega arith)) in
           to i (omega (arith, competes-out n m b s (suc i) c)) (below, e) (rw (c, lt-ltb 0 (suc i) (omega arith)) (omega arith))
 
-  pub placement-reach : reach t (row m (given b P)) ≤ reach t (collection n m b s)
-  placement-reach =
-      let cores : ℕ → ℕ = λ k. reach t (b .core k ∷ []) in
+  pub placement-count : count t (row m (given b P)) ≤ count t (collection n m b s)
+  placement-count =
+      let cores : ℕ → ℕ = λ k. reach t (b .core k) in
       let requests : ℕ → ℕ = λ k. worth (P k) in
-      let split = total-le m (λ k. reach t (given b P k ∷ [])) (λ k. cores k + requests k) (λ k below. given-le k) in
-      let uses = total-sent n Uses uses-apart m requests (λ i. reach t (offered n m b s i)) sent in
-      rw (reach-gather, collection-reach) (omega (arith, total-add m cores requests))
+      let split = total-le (λ k. reach t (given b P k)) (λ k. cores k + requests k) m (λ k below. given-le k) in
+      let uses = total-sent n Uses uses-apart m requests (λ i. count t (offered n m b s i)) sent in
+      rw (count-row, collection-count) (omega (arith, total-add m cores requests))

@@ -1,6 +1,6 @@
 -- Lists sorted from the top, compared by how many of their numbers reach each threshold. Assumes nothing.
 --   Falling top l        no number of l is above the one before it, nor the first above top
---   reach-at, at-reach   the j-th number is at or above a threshold from 1 up exactly if more than j numbers are
+--   count-at, at-count   the j-th number is at or above a threshold from 1 up exactly if more than j numbers are
 --   sorted-le            a list that never reaches a threshold more often than another is, sorted, nowhere above it
 --   top-of               a list of m numbers that reaches each threshold as often as another does, up to m, is its m highest numbers
 use Prim.Native.Nat.{ℕ, zero, suc, _+_, _≤_, _<_, min}
@@ -14,7 +14,8 @@ use lib.Seq.{ext-getD, getD-take}
 use lib.Dec.{ltb}
 use borrow.Author.Tests.{ltb-true, ltb-false}
 use Rattle.model.specs.Ledger.{insertDown, sortDown}
-use Rattle.ledger.proofs.Counting.{reach, reach-cons, reach-under, Reached, up, under, reached}
+use Rattle.model.proofs.Counting.{reach-under, Reach, up, under, reach-cases}
+use Rattle.ledger.proofs.Counting.{count}
 
 abbrev Falling : ℕ → List ℕ → Type 0
 Falling top [] = Unit {0}
@@ -44,14 +45,14 @@ insert-length x (y ∷ ys) = go (inserted x y ys) (insert-length x ys)
     go (behind p e) ih = ap length e ∙ ap suc ih
     go (front p e) ih = ap length e
 
-insert-reach : (t x : ℕ) (l : List ℕ) → reach t (insertDown x l) ≡ reach t (x ∷ l)
-unfolding insertDown
-insert-reach t x [] = refl
-insert-reach t x (y ∷ ys) = go (inserted x y ys) (insert-reach t x ys)
+insert-count : (t x : ℕ) (l : List ℕ) → count t (insertDown x l) ≡ count t (x ∷ l)
+unfolding insertDown count
+insert-count t x [] = refl
+insert-count t x (y ∷ ys) = go (inserted x y ys) (insert-count t x ys)
   where
-    go : Inserted x y ys → reach t (insertDown x ys) ≡ reach t (x ∷ ys) → reach t (insertDown x (y ∷ ys)) ≡ reach t (x ∷ y ∷ ys)
-    go (behind p e) ih = omega (arith, ap (reach t) e, reach-cons t x (y ∷ ys), reach-cons t y ys, reach-cons t x ys, reach-cons t y (insertDown x ys))
-    go (front p e) ih = ap (reach t) e
+    go : Inserted x y ys → count t (insertDown x ys) ≡ count t (x ∷ ys) → count t (insertDown x (y ∷ ys)) ≡ count t (x ∷ y ∷ ys)
+    go (behind p e) ih = omega (arith, ap (count t) e)
+    go (front p e) ih = ap (count t) e
 
 insert-falling : (top x : ℕ) (l : List ℕ) → x ≤ top → Falling top l → Falling top (insertDown x l)
 unfolding insertDown
@@ -67,11 +68,10 @@ unfolding sortDown
 sort-length [] = refl
 sort-length (x ∷ xs) = insert-length x (sortDown xs) ∙ ap suc (sort-length xs)
 
-sort-reach : (t : ℕ) (l : List ℕ) → reach t (sortDown l) ≡ reach t l
-unfolding sortDown
-sort-reach t [] = refl
-sort-reach t (x ∷ xs) =
-    omega (arith, insert-reach t x (sortDown xs), reach-cons t x (sortDown xs), reach-cons t x xs, sort-reach t xs)
+sort-count : (t : ℕ) (l : List ℕ) → count t (sortDown l) ≡ count t l
+unfolding sortDown count
+sort-count t [] = refl
+sort-count t (x ∷ xs) = omega (arith, insert-count t x (sortDown xs), sort-count t xs)
 
 raise : (low high : ℕ) (l : List ℕ) → low ≤ high → Falling low l → Falling high l
 raise low high [] p f = tt
@@ -86,44 +86,45 @@ sort-falling (x ∷ xs) =
 
 -- ---- a falling list and its counts
 
-none-reach : (t top : ℕ) (l : List ℕ) → Falling top l → top < t → reach t l ≡ 0
-unfolding reach
-none-reach t top [] f p = refl
-none-reach t top (x ∷ xs) f p =
-    omega (arith, f .0, reach-under t x (omega (arith, f .0)), none-reach t x xs (f .1) (omega (arith, f .0)))
+none-count : (t top : ℕ) (l : List ℕ) → Falling top l → top < t → count t l ≡ 0
+unfolding count
+none-count t top [] f p = refl
+none-count t top (x ∷ xs) f p =
+    omega (arith, f .0, reach-under t x (omega (arith, f .0)), none-count t x xs (f .1) (omega (arith, f .0)))
 
 -- the first number is at or above the threshold and counts, or none is
 data First (t x : ℕ) (xs : List ℕ) : Type 0 where
-  counts : t ≤ x → reach t (x ∷ xs) ≡ suc (reach t xs) → First t x xs
-  none : x < t → reach t (x ∷ xs) ≡ 0 → reach t xs ≡ 0 → First t x xs
+  counts : t ≤ x → count t (x ∷ xs) ≡ suc (count t xs) → First t x xs
+  none : x < t → count t (x ∷ xs) ≡ 0 → count t xs ≡ 0 → First t x xs
 
 first : (t x : ℕ) (xs : List ℕ) → Falling x xs → First t x xs
-first t x xs f = go (reached t x)
+unfolding count
+first t x xs f = go (reach-cases t x)
   where
-    go : Reached t x → First t x xs
-    go (up p e) = counts p (omega (arith, reach-cons t x xs))
-    go (under p e) = let z : reach t xs ≡ 0 = none-reach t x xs f p in none p (omega (arith, reach-cons t x xs)) z
+    go : Reach t x → First t x xs
+    go (up p e) = counts p (omega arith)
+    go (under p e) = let z : count t xs ≡ 0 = none-count t x xs f p in none p (omega arith) z
 
 module _ (t : ℕ) where
-  reach-at : (top : ℕ) (l : List ℕ) → Falling top l → (j : ℕ) → 1 ≤ t → t ≤ getD l j 0 → j < reach t l
-  reach-at top [] f j p q = absurd (omega arith)
-  reach-at top (x ∷ xs) f zero p q = go (first t x xs (f .1))
+  count-at : (top : ℕ) (l : List ℕ) → Falling top l → (j : ℕ) → 1 ≤ t → t ≤ getD l j 0 → j < count t l
+  count-at top [] f j p q = absurd (omega arith)
+  count-at top (x ∷ xs) f zero p q = go (first t x xs (f .1))
     where
-      go : First t x xs → 0 < reach t (x ∷ xs)
+      go : First t x xs → 0 < count t (x ∷ xs)
       go (counts r e) = omega arith
       go (none r e z) = absurd (omega arith)
-  reach-at top (x ∷ xs) f (suc j) p q = go (first t x xs (f .1)) (reach-at x xs (f .1) j p q)
+  count-at top (x ∷ xs) f (suc j) p q = go (first t x xs (f .1)) (count-at x xs (f .1) j p q)
     where
-      go : First t x xs → j < reach t xs → suc j < reach t (x ∷ xs)
+      go : First t x xs → j < count t xs → suc j < count t (x ∷ xs)
       go (counts r e) ih = omega arith
       go (none r e z) ih = absurd (omega arith)
 
-  at-reach : (top : ℕ) (l : List ℕ) → Falling top l → (j : ℕ) → j < reach t l → t ≤ getD l j 0
-  unfolding reach
-  at-reach top [] f j p = absurd (omega arith)
-  at-reach top (x ∷ xs) f j p = go (first t x xs (f .1)) j p (at-reach x xs (f .1))
+  at-count : (top : ℕ) (l : List ℕ) → Falling top l → (j : ℕ) → j < count t l → t ≤ getD l j 0
+  unfolding count
+  at-count top [] f j p = absurd (omega arith)
+  at-count top (x ∷ xs) f j p = go (first t x xs (f .1)) j p (at-count x xs (f .1))
     where
-      go : First t x xs → (i : ℕ) → i < reach t (x ∷ xs) → ((k : ℕ) → k < reach t xs → t ≤ getD xs k 0) → t ≤ getD (x ∷ xs) i 0
+      go : First t x xs → (i : ℕ) → i < count t (x ∷ xs) → ((k : ℕ) → k < count t xs → t ≤ getD xs k 0) → t ≤ getD (x ∷ xs) i 0
       go (counts r e) zero q ih = r
       go (counts r e) (suc k) q ih = ih k (omega arith)
       go (none r e z) i q ih = absurd (omega arith)
@@ -133,7 +134,7 @@ module _ (t : ℕ) where
 -- wherever a sorts to a number above 0, b is as high there
 sorted-le-at :
     (a b : List ℕ) (j : ℕ) →
-    ((t : ℕ) → j < reach t a → j < reach t b) → getD (sortDown a) j 0 ≤ getD (sortDown b) j 0
+    ((t : ℕ) → j < count t a → j < count t b) → getD (sortDown a) j 0 ≤ getD (sortDown b) j 0
 sorted-le-at a b j h = go (decLe 1 (getD (sortDown a) j 0))
   where
     x : ℕ
@@ -143,16 +144,16 @@ sorted-le-at a b j h = go (decLe 1 (getD (sortDown a) j 0))
     go (yes p) =
         let (ta, fa) = sort-falling a in
         let (tb, fb) = sort-falling b in
-        at-reach x tb (sortDown b) fb j
-        (rw (sort-reach x b) (h x (rw (sort-reach x a) at (reach-at x ta (sortDown a) fa j p (omega arith)))))
+        at-count x tb (sortDown b) fb j
+        (rw (sort-count x b) (h x (rw (sort-count x a) at (count-at x ta (sortDown a) fa j p (omega arith)))))
     go (no q) = omega arith
 
 pub sorted-le :
-    (a b : List ℕ) → ((t : ℕ) → reach t a ≤ reach t b) → (j : ℕ) → getD (sortDown a) j 0 ≤ getD (sortDown b) j 0
+    (a b : List ℕ) → ((t : ℕ) → count t a ≤ count t b) → (j : ℕ) → getD (sortDown a) j 0 ≤ getD (sortDown b) j 0
 sorted-le a b h j = sorted-le-at a b j (λ t p. omega (arith, h t))
 
 module _ (a c : List ℕ) (m : ℕ) (a-length : length a ≡ m) (fits : m ≤ length c) where
-  pub top-of : ((t : ℕ) → reach t a ≡ min m (reach t c)) → sortDown a ≡ take m (sortDown c)
+  pub top-of : ((t : ℕ) → count t a ≡ min m (count t c)) → sortDown a ≡ take m (sortDown c)
   top-of h = ext-getD 0 (sortDown a) (take m (sortDown c)) lengths same
     where
       lengths : length (sortDown a) ≡ length (take m (sortDown c))

@@ -11,7 +11,7 @@ use Rattle.model.specs.Records.{noSource, sourceAt, withSource, withConfigured,
 use Rattle.model.specs.Requests.{boxed}
 use Rattle.model.specs.WellFormed.{WellFormed}
 use Rattle.model.specs.Ledger.{Ledger, Request, noRequest, openRequest, claimedRequest, priorityOf, write, writeConfigured, writeMask, writeRequest}
-use Rattle.guarantees.proofs.Writes.{read-kept, read-written}
+use Rattle.model.proofs.Writes.{read-kept, read-written}
 use Rattle.ledger.specs.Matches.{Matches}
 use Rattle.ledger.proofs.Requests.{pending-priority}
 
@@ -39,7 +39,7 @@ module _ (n m : ℕ) (b : Ledger) (s : Controller) (M : Matches n m b s) (W : We
 
   module _ (r : Source) where
     kept : {A : Type 0} (read : ℕ → Source → A) (f : ℕ → A) → read i r ≡ read i (sourceAt s i) → Pictures n s read f → Pictures n (withSource s i r) read f
-    kept read f same before j h = before j h ∙ sym (read-kept read (s .sources) i j r noSource inside same)
+    kept read f same before j h = before j h ∙ sym (read-kept read (s .sources) i j r noSource same)
 
     written : {A : Type 0} (read : ℕ → Source → A) (f : ℕ → A) {v : A} → v ≡ read i r → Pictures n s read f → Pictures n (withSource s i r) read (write f (suc i) v)
     written read f {v} value before j h =

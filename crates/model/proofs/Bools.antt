@@ -1,7 +1,9 @@
 -- Boolean tests taken apart and put together. Assumes nothing.
 --   and-in, and-l, and-r      a conjunction from its parts, and its parts
 --   or-in-l, or-in-r, or-off  a disjunction from a part; the second part where the first fails
---   true≠false                a flag has one value
+--   not-in                    a negation; taken apart it is `not-true` and `not-false` of borrow.Author.Tests
+--   clash                     a flag has one value: from both anything follows
+--   refuted, confirmed        a flag that can't be true is false, one that can't be false is true
 --   flag                      a flag is true or false, for a proof by cases with the equation kept
 use mathlib.Core.Path.{_≡_, refl, sym, _∙_}
 use mathlib.Core.Bool.{Bool, true, false, not, _&&_, _||_, true≢false}
@@ -31,16 +33,16 @@ or-off false b e f = e
 pub not-in : {a : Bool} → a ≡ false → not a ≡ true
 not-in {a} p = rw p
 
-pub not-out : (a : Bool) → not a ≡ true → a ≡ false
-not-out true e = sym e
-not-out false e = refl
-
-pub not-not : (a : Bool) → not a ≡ false → a ≡ true
-not-not true e = refl
-not-not false e = sym e
-
 pub clash {ℓ} : {A : Type ℓ} {a : Bool} → a ≡ true → a ≡ false → A
 clash p q = absurd (true≢false (sym p ∙ q))
+
+pub refuted : (a : Bool) → (a ≡ true → ⊥) → a ≡ false
+refuted true h = absurd (h refl)
+refuted false h = refl
+
+pub confirmed : (a : Bool) → (a ≡ false → ⊥) → a ≡ true
+confirmed true h = refl
+confirmed false h = absurd (h refl)
 
 pub data Flag (a : Bool) : Type 0 where
   on : a ≡ true → Flag a

@@ -1,4 +1,8 @@
--- Which box names a source: `boxed` as facts about the cores. Assumes nothing.
+-- Which box names a source: `holds` and `boxed` as facts about the cores. Assumes nothing.
+--   holds-in, holds-filled, holds-source    a box holds an id: it is filled, and its source has that id
+--   boxed-in, boxed-out                     some box of the first m holds it
+--   unboxed-in, unboxed-out                 no box of the first m holds it
+--   boxed-agree                             the same ids are boxed where the boxes hold the same
 use Prim.Native.Nat.{ℕ, _<_}
 use mathlib.Core.Path.{_≡_}
 use mathlib.Core.List.{List}
@@ -10,7 +14,7 @@ use Rattle.model.specs.declared.Core.{Core}
 use Rattle.model.specs.Records.{noCore}
 use Rattle.model.specs.Requests.{holds, boxed}
 use Rattle.model.proofs.Bools.{and-in, and-l, and-r}
-use Rattle.model.proofs.Walks.{Witness, some-in, some-out, some-false-in, some-false-out}
+use Rattle.model.proofs.Walks.{Witness, some-in, some-out, some-false-in, some-false-out, some-agree}
 
 pub holds-in : (id : ℕ) (c : Core) → c .message .filled ≡ true → c .message .source .0 ≡ id → holds id c ≡ true
 holds-in id c p q = and-in p (eq-eqb (c .message .source .0) id q)
@@ -37,3 +41,7 @@ module _ (l : List Core) (m id : ℕ) where
   pub unboxed-out : boxed l m id ≡ false → (k : ℕ) → k < m → holds id (getD l k noCore) ≡ false
   unfolding boxed
   unboxed-out e = some-false-out m (λ j. holds id (getD l j noCore)) e
+
+pub boxed-agree : (l l′ : List Core) (m id : ℕ) → ((k : ℕ) → k < m → holds id (getD l k noCore) ≡ holds id (getD l′ k noCore)) → boxed l m id ≡ boxed l′ m id
+unfolding boxed
+boxed-agree l l′ m id h = some-agree m (λ k. holds id (getD l k noCore)) (λ k. holds id (getD l′ k noCore)) h

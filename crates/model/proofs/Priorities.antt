@@ -1,9 +1,11 @@
 -- The priority field's width: the floor of the logarithm is exact, and document 01's four top priorities. Assumes nothing.
-use Prim.Native.Nat.{ℕ, _+_, _-_, _*_, _^_, _%_, _<_, _≤_}
+--   top-lt                   the top priority of n sources is below 4n
+--   top-none, top-shifted    the top priority as the code shifts it out of the leading zeros
+use Prim.Native.Nat.{ℕ, suc, _+_, _-_, _*_, _^_, _%_, _<_, _≤_}
 use mathlib.Core.Path.{_≡_, refl, ap, subst, _∙_}
 use native.Mathlib.Omega.{arith}
 use native.Mathlib.Numerals.{add-one}
-use native.Mathlib.Nat.{mod-eq-of-lt, pow-le-pow-right, one-mul}
+use native.Mathlib.Nat.{mod-eq-of-lt, pow-suc, pow-le-pow-right, one-mul}
 use lib.Count.{leadingZeros, leading-top, leading-le}
 use Rattle.model.specs.Priorities.{floorLog2, priorityWidth, topPriority}
 use Rattle.model.specs.Statements.{FloorLog2Exact, TopPriorityValues}
@@ -18,6 +20,17 @@ floor-log2-exact n h g =
 pub top-priority-values : TopPriorityValues
 unfolding leadingZeros floorLog2 priorityWidth topPriority
 top-priority-values = (refl, refl, refl, refl)
+
+-- ---- how large the top priority is
+
+four-times : (k : ℕ) → 2 ^ (k + 2) ≡ 4 * 2 ^ k
+four-times k =
+    let e : k + 2 ≡ suc (suc k) = omega arith in
+    ap (λ (i : ℕ). 2 ^ i) e ∙ omega (arith, pow-suc 2 k, pow-suc 2 (suc k))
+
+pub top-lt : (n : ℕ) → 1 ≤ n → n < 2 ^ 16 → topPriority n < 4 * n
+unfolding topPriority priorityWidth
+top-lt n h g = omega (arith, floor-log2-exact n h g .0, four-times (floorLog2 n))
 
 -- ---- the top priority by a shift of 32 binary digits, from the leading zeros z of n
 

@@ -1,20 +1,22 @@
 -- "For each" and "for some" below a bound, as facts about every number below it. Assumes nothing.
+--   below-suc                        what holds below k and at k holds below k + 1
+--   every-in, every-out              `every` from the facts, and each fact from it
+--   some-in, some-out                `some` from a number at which the test holds, and such a number from it
+--   some-false-in, some-false-out    the same where it fails at each
+--   some-agree                       tests that agree below the bound
 use Prim.Native.Nat.{ℕ, zero, suc, _<_}
-use mathlib.Core.Path.{_≡_, refl, sym, _∙_, subst}
+use mathlib.Core.Path.{_≡_, refl, sym}
 use mathlib.Core.Bool.{Bool, true, false, _||_, true≢false}
 use native.Mathlib.Omega.{arith}
 use native.Mathlib.Nat.{not-suc-le-zero}
-use native.Mathlib.Decide.{decLt}
+use native.Mathlib.Numerals.{add-one}
+use borrow.Author.Count.{below-more}
 use Rattle.model.specs.Walks.{every, some}
-use Rattle.model.proofs.Bools.{and-in, and-l, and-r, or-in-l, or-in-r, or-off, Flag, on, off, flag}
+use Rattle.model.proofs.Bools.{and-in, and-l, and-r, or-in-l, or-in-r, or-off, clash, refuted, Flag, on, off, flag}
 
 -- the last number below suc k is k
-below-suc : (P : ℕ → Type 0) (k : ℕ) → ((i : ℕ) → i < k → P i) → P k → (i : ℕ) → i < suc k → P i
-below-suc P k below at i h = go (decLt i k)
-  where
-    go : Dec (i < k) → P i
-    go (yes p) = below i p
-    go (no q) = let e : k ≡ i = omega arith in subst P e at
+pub below-suc : (P : ℕ → Type 0) (k : ℕ) → ((i : ℕ) → i < k → P i) → P k → (i : ℕ) → i < suc k → P i
+below-suc P k below at i h = below-more P k below at i (rw add-one h)
 
 pub every-out : (n : ℕ) (f : ℕ → Bool) → every n f ≡ true → (i : ℕ) → i < n → f i ≡ true
 unfolding every
@@ -52,15 +54,13 @@ some-out (suc k) f e = go (flag (some k f)) (some-out k f)
     go (off p) rest = record { at = k; below = omega arith; holds = or-off (some k f) (f k) e p }
 
 pub some-false-out : (n : ℕ) (f : ℕ → Bool) → some n f ≡ false → (i : ℕ) → i < n → f i ≡ false
-some-false-out n f e i h = go (flag (f i))
-  where
-    go : Flag (f i) → f i ≡ false
-    go (on p) = absurd (true≢false (sym (some-in n f i h p) ∙ e))
-    go (off p) = p
+some-false-out n f e i h = refuted (f i) (λ p. clash (some-in n f i h p) e)
 
 pub some-false-in : (n : ℕ) (f : ℕ → Bool) → ((i : ℕ) → i < n → f i ≡ false) → some n f ≡ false
-some-false-in n f h = go (flag (some n f))
-  where
-    go : Flag (some n f) → some n f ≡ false
-    go (on p) = let w : Witness n f = some-out n f p in absurd (true≢false (sym (w .holds) ∙ h (w .at) (w .below)))
-    go (off p) = p
+some-false-in n f h =
+    refuted (some n f) (λ p. let w : Witness n f = some-out n f p in clash (w .holds) (h (w .at) (w .below)))
+
+pub some-agree : (n : ℕ) (f g : ℕ → Bool) → ((k : ℕ) → k < n → f k ≡ g k) → some n f ≡ some n g
+unfolding some
+some-agree zero f g h = refl
+some-agree (suc k) f g h = rw (some-agree k f g (λ j p. h j (omega arith)), h k (omega arith))

@@ -4,25 +4,25 @@
 --   deliveries-end    settling ends, with at most m deliveries
 use Prim.Native.Nat.{ℕ, zero, suc, _-_, _<_, _≤_}
 use mathlib.Core.Path.{_≡_}
-use mathlib.Core.Bool.{true, false, not}
+use mathlib.Core.Bool.{true, false}
 use native.Mathlib.Omega.{arith}
 use native.Mathlib.Decide.{ℕ-discrete}
-use Rattle.model.specs.declared.Source.{Source}
 use Rattle.model.specs.declared.Core.{Core}
 use Rattle.model.specs.declared.Controller.{Controller}
 use Rattle.model.specs.declared.Cycle.the-variants.{Rest, Deliver}
 use Rattle.model.specs.Records.{sourceId, coreId, sourceAt, coreAt}
 use Rattle.model.specs.Priorities.{topPriority}
-use Rattle.model.specs.Requests.{currentPriority, waiting, candidate}
+use Rattle.model.specs.Requests.{currentPriority, candidate}
 use Rattle.model.specs.WellFormed.{Backed, WellFormed}
 use Rattle.model.specs.Settling.{deliver, next}
-use Rattle.model.proofs.Bools.{and-l, clash}
+use Rattle.model.proofs.Bools.{clash}
+use Rattle.model.proofs.Candidates.{candidate-pending}
+use Rattle.model.proofs.Counting.{reached, reached-le, reached-more}
 use Rattle.settling.specs.Phases.{Holding, Consistent, Delivering}
 use Rattle.settling.proofs.Writes.{core-deliver-other, deliver-sizes}
 use Rattle.settling.proofs.Keeps.{deliver-keeps}
-use Rattle.settling.proofs.Arbitrated.{Arbitrated, CandidateBefore, stayed, evicted}
+use Rattle.settling.proofs.Arbitrated.{Arbitrated, contest-arbitrated, CandidateBefore, stayed, evicted}
 use Rattle.settling.proofs.Deliver.{deliver-consistent, deliver-current-same, deliver-delivering, deliver-claimed, deliver-candidate}
-use Rattle.settling.proofs.Reach.{reached, reached-le, reached-more}
 use Rattle.settling.proofs.Next.{Contest, Settled, Next, resting, retracting, arbitrating, next-cases}
 use Rattle.settling.proofs.Run.{Ended, ended-here, ended-step, ended-within}
 
@@ -64,10 +64,6 @@ settled-wellFormed c d st =
 
 -- ---- one delivery
 
-candidate-pending : (r : Source) → candidate r ≡ true → r .pending ≡ true
-candidate-pending r e =
-    and-l (r .pending) (not (r .delivered)) (and-l (waiting r) (not (r .masked)) e)
-
 abbrev current : Controller → ℕ → ℕ
 current s k = currentPriority (coreAt s k)
 
@@ -84,16 +80,7 @@ short s p = s .m - reached (s .m) p (current s)
 
 module _ (s : Controller) (p : ℕ) (run : Running s p) (i k : ℕ) (c : Contest s i k) where
   arbitrated : Arbitrated s i k
-  arbitrated =
-      record {
-        consistent = run .consistent;
-        delivering = run .delivering;
-        source-in = c .source-in;
-        is-candidate = c .is-candidate;
-        core-in = c .core-in;
-        least = c .least;
-        above = c .above;
-      }
+  arbitrated = contest-arbitrated (run .consistent) (run .delivering) c
 
   capped-deliver : Capped (deliver s i k) ((sourceAt s i) .priority)
   capped-deliver j q e = go (deliver-candidate arbitrated j below e)

@@ -1,36 +1,34 @@
 -- The loop of deliveries, turn by turn. Assumes nothing.
---   Delivered s ks cs state t    state is s after its first t cycles, all of them deliveries, and ks and cs are its keys
+--   Delivered s ks cs state t    state is s after its first t cycles, which are deliveries, and ks and cs are its keys
 --   delivered-none               before the first turn
 --   delivered-more               a turn that delivers
 --   delivered-rest, -all         at rest, or after m turns: the answer is that of every longer run
 use Prim.Native.Nat.{ℕ, suc, _+_, _-_, _^_, _<_, _≤_}
-use mathlib.Core.Path.{_≡_, refl, sym, _∙_, ap}
+use mathlib.Core.Path.{_≡_, refl, _∙_}
 use mathlib.Core.List.{List}
 use mathlib.Core.Bool.{true}
 use lib.ListN.{length, getD, set}
 use native.Mathlib.Omega.{arith}
-use native.Mathlib.Numerals.{add-one}
 use Rattle.model.specs.declared.Core.{Core}
 use Rattle.model.specs.declared.Controller.{Controller}
 use Rattle.model.specs.declared.Cycle.the-variants.{Rest, Deliver}
 use Rattle.model.specs.Records.{maxSources, maxCores, sourceId, coreId, withDelivered, holding, coreWith, sourceAt, coreAt, withSource, withCore, answer}
 use Rattle.model.specs.Walks.{walk}
-use Rattle.model.specs.Settling.{next, deliver, settle, countOf, cyclesOf, isRetraction, isDelivery}
+use Rattle.model.specs.Settling.{next, settle, cyclesOf, isRetraction, isDelivery}
 use Rattle.arbitration.specs.Keys.{HighestKey, keyBelow}
 use Rattle.settling.specs.Phases.{Consistent, Delivering}
 use Rattle.settling.specs.Runs.{RanksOf, CurrentsOf, AfterDeliveries}
 use Rattle.settling.proofs.Writes.{deliver-sizes}
 use Rattle.settling.proofs.Arbitrated.{Arbitrated}
 use Rattle.settling.proofs.Deliver.{deliver-consistent, deliver-delivering}
-use Rattle.settling.proofs.Run.{cycle-is, settle-rest, count-rest}
-use Rattle.settling.proofs.Forward.{settle-suc, settle-add, cyclesOf-suc, cyclesOf-add}
+use Rattle.settling.proofs.Run.{settle-rest, count-rest}
+use Rattle.settling.proofs.Forward.{settle-add, cyclesOf-add, Ran, ran-none, ran-more}
 use Rattle.settling.proofs.Deliveries.{deliveries-end}
 use Rattle.settling.proofs.Keyed.{Keyed, source-in, core-in, current-small, rests, delivers, arbitrated}
 use Rattle.settling.proofs.Stores.{PutBack, stores-are, keyed-delivered}
 
 pub record Delivered (s : Controller) (ks cs : List ℕ) (state : Controller) (t : ℕ) : Type 0 where
-  pub state-is : state ≡ settle t s
-  pub counted : cyclesOf t s ≡ t
+  pub ran : Ran s state t
   pub consistent : Consistent state
   pub delivering : Delivering state
   pub keyed : Keyed state ks cs
@@ -39,11 +37,9 @@ pub record Delivered (s : Controller) (ks cs : List ℕ) (state : Controller) (t
   pub m-same : state .m ≡ s .m
 
 pub delivered-none : (s : Controller) (ks cs : List ℕ) → Consistent s → Delivering s → RanksOf (s .sources) (s .n) ks → CurrentsOf (s .cores) (s .m) cs → length ks ≡ maxSources → length cs ≡ maxCores → Delivered s ks cs s 0
-unfolding settle countOf cyclesOf
 delivered-none s ks cs c d ranks currents e e′ =
     record {
-      state-is = refl;
-      counted = refl;
+      ran = ran-none s;
       consistent = c;
       delivering = d;
       keyed = record { ranks = ranks; currents = currents; keys-length = e; currents-length = e′ };
@@ -64,36 +60,30 @@ module _ {s state : Controller} {ks cs : List ℕ} {t : ℕ} (r : Delivered s ks
   -- the indices lie in the arrays
   pub found-source : at < maxSources
   found-source =
-      omega (arith, r .consistent .n-le, source-in state ks cs (r .consistent) (r .delivering) (r .keyed) at k highest-here least-here)
+      omega (arith, r .consistent .n-le, source-in (r .consistent) (r .delivering) (r .keyed) highest-here least-here)
 
   pub found-core : k < maxCores
   found-core =
-      omega (arith, r .consistent .m-le, core-in state ks cs (r .consistent) (r .delivering) (r .keyed) at k highest-here least-here)
+      omega (arith, r .consistent .m-le, core-in (r .consistent) (r .delivering) (r .keyed) highest-here least-here)
 
   pub found-current : getD cs k 0 < 2 ^ 17
-  found-current = current-small state ks cs (r .consistent) (r .delivering) (r .keyed) at k highest-here least-here
+  found-current = current-small (r .consistent) (r .delivering) (r .keyed) highest-here least-here
 
   pub turn-rests : getD ks at 0 ≤ getD cs k 0 + 1 → next state ≡ Rest
-  turn-rests = rests state ks cs (r .consistent) (r .delivering) (r .keyed) at k highest-here least-here
+  turn-rests = rests (r .consistent) (r .delivering) (r .keyed) highest-here least-here
 
   module _ (above : getD cs k 0 + 1 < getD ks at 0) where
     pub turn-arbitrated : Arbitrated state at k
-    turn-arbitrated = arbitrated state ks cs (r .consistent) (r .delivering) (r .keyed) at k highest-here least-here above
+    turn-arbitrated = arbitrated (r .consistent) (r .delivering) (r .keyed) highest-here least-here above
 
-    turn-delivers : next (settle t s) ≡ Deliver (sourceId (suc at)) (coreId k)
-    turn-delivers =
-        rw (← r .state-is)
-        (delivers state ks cs (r .consistent) (r .delivering) (r .keyed) at k highest-here least-here above)
+    turn-delivers : next state ≡ Deliver (sourceId (suc at)) (coreId k)
+    turn-delivers = delivers (r .consistent) (r .delivering) (r .keyed) highest-here least-here above
 
     pub delivered-more : {ks₁ : List ℕ} {s₁ : Controller} → PutBack state k ks₁ s₁ → t < s .m → (d : Core) → d ≡ coreWith ((coreAt state k) .configured) (holding (sourceId (at + 1)) ((sourceAt s₁ at) .priority)) → Delivered s (set ks₁ at 0) (set cs k ((sourceAt s₁ at) .priority)) (withCore (withSource s₁ at (withDelivered true (sourceAt s₁ at))) k d) (t + 1)
     delivered-more b h d e =
         rw (stores-are turn-arbitrated (r .keyed) b d e)
         (record {
-          state-is =
-              rw (add-one, settle-suc)
-              (ap (λ (x : Controller). deliver x at k) (r .state-is) ∙
-              sym (cycle-is (settle t s) (Deliver (sourceId (suc at)) (coreId k)) turn-delivers));
-          counted = rw (add-one, cyclesOf-suc, turn-delivers) (omega (arith, r .counted));
+          ran = ran-more (r .ran) (Deliver (sourceId (suc at)) (coreId k)) turn-delivers refl;
           consistent = deliver-consistent turn-arbitrated;
           delivering = deliver-delivering turn-arbitrated;
           keyed = keyed-delivered turn-arbitrated (r .keyed) b;
@@ -112,8 +102,8 @@ module _ {s state : Controller} {ks cs : List ℕ} {t : ℕ} (r : Delivered s ks
   -- f more cycles change nothing
   answered : next state ≡ Rest → (f : ℕ) → answer state 0 id (spent + t) ≡ answer (settle (t + f) s) 0 id (spent + cyclesOf (t + f) s)
   answered rest f =
-      let state-there : settle (t + f) s ≡ state = rw (settle-add, ← r .state-is) (settle-rest state rest f) in
-      let cycles-there : cyclesOf (t + f) s ≡ t = rw (cyclesOf-add, ← r .state-is) (omega (arith, r .counted, cyclesOf-rest state rest f)) in
+      let state-there : settle (t + f) s ≡ state = rw (settle-add, ← r .ran .state-is) (settle-rest state rest f) in
+      let cycles-there : cyclesOf (t + f) s ≡ t = rw (cyclesOf-add, ← r .ran .state-is) (omega (arith, r .ran .counted, cyclesOf-rest state rest f)) in
       rw (state-there, cycles-there)
 
   pub delivered-rest : next state ≡ Rest → AfterDeliveries s id spent (answer state 0 id (spent + t))
@@ -122,4 +112,4 @@ module _ {s state : Controller} {ks cs : List ℕ} {t : ℕ} (r : Delivered s ks
       rw split at (answered rest (f - t))
 
   pub delivered-all : Consistent s → Delivering s → s .m ≤ t → AfterDeliveries s id spent (answer state 0 id (spent + t))
-  delivered-all c d h = delivered-rest (rw (r .state-is) (deliveries-end s c d t h .rests))
+  delivered-all c d h = delivered-rest (rw (r .ran .state-is) (deliveries-end s c d t h .rests))

@@ -1,5 +1,5 @@
 -- Settling changes boxes and delivered marks only, in every state. Assumes nothing.
---   retract-keeps, deliver-keeps, cycle-keeps, settle-keeps    Kept s s′, for one step, one cycle and a run of cycles
+--   retract-keeps, deliver-keeps, settle-keeps    `Kept s s′`, for one step and for a run of cycles
 use Prim.Native.Nat.{ℕ, zero, suc}
 use mathlib.Core.Path.{_≡_, refl, _∙_, ap}
 use mathlib.Core.Bool.{false}
@@ -12,7 +12,7 @@ use Rattle.model.specs.Settling.{retract, deliver, next, apply, cycle, settle}
 use Rattle.settling.specs.Phases.{Kept, SettleKeeps}
 use Rattle.settling.proofs.Writes.{core-retract-configured, unmarked-retract, retract-sizes, core-deliver-configured, unmarked-deliver, deliver-sizes}
 
-pub kept-refl : (s : Controller) → Kept s s
+kept-refl : (s : Controller) → Kept s s
 kept-refl s =
     record {
       n-same = refl;
@@ -24,7 +24,7 @@ kept-refl s =
       core-configured = λ k. refl;
     }
 
-pub kept-trans : {s s′ s″ : Controller} → Kept s s′ → Kept s′ s″ → Kept s s″
+kept-trans : {s s′ s″ : Controller} → Kept s s′ → Kept s′ s″ → Kept s s″
 kept-trans a b =
     record {
       n-same = b .n-same ∙ a .n-same;
@@ -59,7 +59,7 @@ pub deliver-keeps : (s : Controller) (i k : ℕ) → Kept s (deliver s i k)
 deliver-keeps s i k =
     kept s (deliver s i k) (deliver-sizes s i k) (unmarked-deliver s i k) (core-deliver-configured s i k)
 
-pub cycle-keeps : (s : Controller) → Kept s (cycle s)
+cycle-keeps : (s : Controller) → Kept s (cycle s)
 unfolding cycle
 cycle-keeps s = go (next s)
   where

@@ -1,36 +1,35 @@
 -- The keys decide as the records do: what the highest key and the least current priority say of the next cycle. Assumes nothing.
 --   Keyed s ks cs          ks holds the ranks of the sources of s, cs the current priorities of its cores
---   source-in, core-in       the index of the highest key is a source's, that of the least current priority a core's
+--   source-in, core-in     the index of the highest key is a source's, that of the least current priority a core's
 --   current-small          that priority, as a number of 32 binary digits, can be raised by one
 --   rests, delivers        the key is above the current priority by more than one exactly if the next cycle is a delivery
 --   arbitrated             what holds then
-use Prim.Native.Nat.{ℕ, suc, pred, _+_, _-_, _^_, _<_, _≤_}
+use Prim.Native.Nat.{ℕ, suc, pred, _+_, _^_, _<_, _≤_}
 use mathlib.Core.Path.{_≡_, _∙_}
 use mathlib.Core.List.{List}
 use mathlib.Core.Bool.{true, false}
 use lib.ListN.{length, getD}
 use borrow.Author.Tests.{lt-ltb, le-ltb}
-use lib.Count.{leadingZeros}
 use native.Mathlib.Omega.{arith}
-use native.Mathlib.Nat.{pow-le-pow-right}
 use Rattle.model.specs.declared.Source.{Source}
 use Rattle.model.specs.declared.Core.{Core}
 use Rattle.model.specs.declared.Controller.{Controller}
 use Rattle.model.specs.declared.Cycle.the-variants.{Rest, Deliver}
 use Rattle.model.specs.Records.{maxSources, maxCores, sourceId, coreId, sourceAt, coreAt}
-use Rattle.model.specs.Priorities.{floorLog2, priorityWidth, topPriority}
+use Rattle.model.specs.Priorities.{topPriority}
 use Rattle.model.specs.Walks.{walk}
 use Rattle.model.specs.Requests.{currentPriority, candidate}
 use Rattle.model.specs.Arbitration.{rank}
 use Rattle.model.specs.Settling.{interruptedBy, arbitrate, next}
 use Rattle.model.proofs.Bools.{and-in, Flag, on, off, flag}
 use Rattle.model.proofs.Candidates.{rank-candidate, rank-none}
+use Rattle.model.proofs.Priorities.{top-lt}
 use Rattle.arbitration.specs.Keys.{HighestKey, keyBelow}
 use Rattle.arbitration.proofs.Tree.{highest-below, least-below}
-use Rattle.arbitration.proofs.Keys.{highest-by-keys, least-by-keys}
+use Rattle.arbitration.proofs.ByKeys.{highest-by-keys, least-by-keys}
 use Rattle.settling.specs.Phases.{Holding, Consistent, Delivering}
 use Rattle.settling.specs.Runs.{RanksOf, CurrentsOf}
-use Rattle.settling.proofs.Arbitrated.{Arbitrated}
+use Rattle.settling.proofs.Arbitrated.{Arbitrated, contest-arbitrated}
 use Rattle.settling.proofs.Next.{Contest, topSource, lowCore, contest, next-clean}
 
 pub record Keyed (s : Controller) (ks cs : List ℕ) : Type 0 where
@@ -39,23 +38,20 @@ pub record Keyed (s : Controller) (ks cs : List ℕ) : Type 0 where
   pub keys-length : length ks ≡ maxSources
   pub currents-length : length cs ≡ maxCores
 
--- ---- a current priority is at most the top priority, far below 2^32
-
-top-below : (n : ℕ) → topPriority n < 2 ^ 17
-unfolding floorLog2 priorityWidth topPriority
-top-below n =
-    let h : 2 ^ (15 - leadingZeros 16 n + 2) ≤ 2 ^ 17 = pow-le-pow-right {n = 2} (omega arith) {i = 15 - leadingZeros 16 n + 2} {j = 17} (omega arith) in
-    omega arith
+-- ---- a current priority is at most the top priority, far below 2^17
 
 current-below : (s : Controller) → Consistent s → (k : ℕ) → k < s .m → currentPriority (coreAt s k) < 2 ^ 17
 current-below s c k h = go (flag ((coreAt s k) .message .filled))
   where
+    top : topPriority (s .n) < 2 ^ 17
+    top = omega (arith, top-lt (s .n) (c .some-source) (omega (arith, c .n-le)), c .n-le)
+
     go : Flag ((coreAt s k) .message .filled) → currentPriority (coreAt s k) < 2 ^ 17
     go (on e) =
         let held : Holding s (coreAt s k) = c .backed k h e in
         let source-in : pred ((coreAt s k) .message .source .0) < s .n = omega (arith, held .some-id, held .id-le) in
-        rw e (omega (arith, held .same-priority, c .request-range _ source-in (held .pending), top-below (s .n)))
-    go (off e) = rw e (omega (arith, c .configured-core k h, top-below (s .n)))
+        rw e (omega (arith, held .same-priority, c .request-range _ source-in (held .pending), top))
+    go (off e) = rw e (omega (arith, c .configured-core k h, top))
 
 -- ---- a rank beside a current priority
 
@@ -75,7 +71,7 @@ rank-not-above c r h = go (flag (candidate r))
 
 -- ---- what the search over the keys finds
 
-module _ (s : Controller) (ks cs : List ℕ) (c : Consistent s) (d : Delivering s) (keyed : Keyed s ks cs) (at k : ℕ) (highest : HighestKey ks 0 (s .n) at) (least : k ≡ walk (keyBelow cs) (s .m)) where
+module _ {s : Controller} {ks cs : List ℕ} (c : Consistent s) (d : Delivering s) (keyed : Keyed s ks cs) {at k : ℕ} (highest : HighestKey ks 0 (s .n) at) (least : k ≡ walk (keyBelow cs) (s .m)) where
   source-is : at ≡ topSource s
   source-is = highest-by-keys (s .sources) (s .n) ks (keyed .ranks) at highest
 
@@ -116,13 +112,4 @@ module _ (s : Controller) (ks cs : List ℕ) (c : Consistent s) (d : Delivering 
         found interrupts-there
 
     pub arbitrated : Arbitrated s at k
-    arbitrated =
-        record {
-          consistent = c;
-          delivering = d;
-          source-in = contested .source-in;
-          is-candidate = contested .is-candidate;
-          core-in = contested .core-in;
-          least = contested .least;
-          above = contested .above;
-        }
+    arbitrated = contest-arbitrated c d contested

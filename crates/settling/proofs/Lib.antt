@@ -6,11 +6,10 @@ pub mod OneBoxClaims
 pub mod Arbitrated
 pub mod Deliver
 pub mod Retract
-pub mod Reach
 pub mod Next
 pub mod Run
 pub mod Forward
-pub mod Keys
+pub mod Filling
 pub mod Deliveries
 pub mod Retractions
 pub mod Retracting

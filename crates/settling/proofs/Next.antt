@@ -20,6 +20,7 @@ use Rattle.model.specs.Arbitration.{highest, least}
 use Rattle.model.specs.Settling.{firstDirty, interruptedBy, arbitrate, next}
 use Rattle.arbitration.proofs.Tree.{least-below, least-le, highest-below, highest-ge}
 use Rattle.model.proofs.Bools.{and-in, and-l, and-r, Flag, on, off, flag, clash}
+use Rattle.model.proofs.Walks.{below-suc}
 
 abbrev dirtyAt : List Core → ℕ → Bool
 dirtyAt l k = (getD l k noCore) .message .dirty
@@ -31,13 +32,6 @@ Clean l m = (k : ℕ) → k < m → dirtyAt l k ≡ false
 -- ---- the first dirty box
 
 module _ (l : List Core) where
-  clean-suc : (j : ℕ) → Clean l j → dirtyAt l j ≡ false → Clean l (suc j)
-  clean-suc j c e k p = go (decLt k j)
-    where
-      go : Dec (k < j) → dirtyAt l k ≡ false
-      go (yes q) = c k q
-      go (no q) = let same : j ≡ k = omega arith in rw same at e
-
   data First (m w : ℕ) : Type 0 where
     found : w < m → dirtyAt l w ≡ true → Clean l w → First m w
     missed : w ≡ m → Clean l m → First m w
@@ -50,7 +44,7 @@ module _ (l : List Core) where
       go : First j (firstDirty l j) → Flag (dirtyAt l j) → First (suc j) (firstDirty l (suc j))
       go (found p e c) f = rw (lt-ltb (firstDirty l j) j p) (found (omega arith) e c)
       go (missed p c) (on e) = rw (le-ltb (firstDirty l j) j (omega arith), e) (found (omega arith) e c)
-      go (missed p c) (off e) = rw (le-ltb (firstDirty l j) j (omega arith), e) (missed refl (clean-suc j c e))
+      go (missed p c) (off e) = rw (le-ltb (firstDirty l j) j (omega arith), e) (missed refl (below-suc (λ (k : ℕ). dirtyAt l k ≡ false) j c e))
 
 -- ---- the three cases
 

@@ -2,18 +2,15 @@
 --   MarksFollow s s′ k j    the mark of source j + 1 is lost with the box, not yet there before the box, and else as it was
 use Prim.Native.Nat.{ℕ, suc, pred, _<_, _≤_}
 use mathlib.Core.Path.{_≡_, sym, _∙_, ap}
-use mathlib.Core.List.{List}
 use mathlib.Core.Bool.{true, false, _&&_, and-false}
-use lib.ListN.{getD}
 use native.Mathlib.Nat.{suc-pred-eq-of-pos}
 use native.Mathlib.Decide.{ℕ-discrete}
 use Rattle.model.specs.declared.Core.{Core}
 use Rattle.model.specs.declared.Controller.{Controller}
-use Rattle.model.specs.Records.{noCore, sourceAt, coreAt}
-use Rattle.model.specs.Requests.{holds, boxed, claimed}
-use Rattle.model.proofs.Bools.{Flag, on, off, flag}
-use Rattle.model.proofs.Walks.{Witness}
-use Rattle.model.proofs.Boxes.{holds-in, holds-filled, holds-source, boxed-in, boxed-out, unboxed-in, unboxed-out}
+use Rattle.model.specs.Records.{sourceAt, coreAt}
+use Rattle.model.specs.Requests.{holds, claimed}
+use Rattle.model.proofs.Bools.{refuted}
+use Rattle.model.proofs.Boxes.{holds-in, holds-filled, holds-source, boxed-in, boxed-agree}
 use Rattle.settling.specs.Phases.{Consistent}
 use Rattle.settling.proofs.Writes.{Names, names?}
 use Rattle.settling.proofs.OneBox.{BoxWritten}
@@ -29,11 +26,8 @@ named-held : (c : Core) (j : ℕ) → 1 ≤ c .message .source .0 → Names (c .
 named-held c j h n = holds-in (suc j) c (n .0) (sym (ap suc (n .1) ∙ suc-pred-eq-of-pos h))
 
 unnamed-not-held : (c : Core) (j : ℕ) → ¬ (Names (c .message) j) → holds (suc j) c ≡ false
-unnamed-not-held c j u = go (flag (holds (suc j) c))
-  where
-    go : Flag (holds (suc j) c) → holds (suc j) c ≡ false
-    go (on e) = absurd (u (holds-filled (suc j) c e, sym (ap pred (holds-source (suc j) c e))))
-    go (off e) = e
+unnamed-not-held c j u =
+    refuted (holds (suc j) c) (λ e. u (holds-filled (suc j) c e, sym (ap pred (holds-source (suc j) c e))))
 
 -- ---- requests that are not claimed
 
@@ -47,15 +41,6 @@ named-unclaimed s k j c h n =
 
 -- ---- the step
 
-boxed-same : (l l′ : List Core) (m id : ℕ) → ((k : ℕ) → k < m → holds id (getD l′ k noCore) ≡ holds id (getD l k noCore)) → boxed l′ m id ≡ boxed l m id
-boxed-same l l′ m id same = go (flag (boxed l m id))
-  where
-    go : Flag (boxed l m id) → boxed l′ m id ≡ boxed l m id
-    go (on e) =
-        let w : Witness m (λ j. holds id (getD l j noCore)) = boxed-out l m id e in
-        boxed-in l′ m id (w .at) (w .below) (same (w .at) (w .below) ∙ w .holds) ∙ sym e
-    go (off e) = unboxed-in l′ m id (λ k h. same k h ∙ unboxed-out l m id e k h) ∙ sym e
-
 module _ (s s′ : Controller) (k j : ℕ) (k-in : k < s .m) (w : BoxWritten s s′ k) where
   held-same : holds (suc j) (coreAt s′ k) ≡ holds (suc j) (coreAt s k) → (l : ℕ) → holds (suc j) (coreAt s′ l) ≡ holds (suc j) (coreAt s l)
   held-same e l = go (ℕ-discrete l k)
@@ -66,7 +51,7 @@ module _ (s s′ : Controller) (k j : ℕ) (k-in : k < s .m) (w : BoxWritten s s
 
   claimed-same : (sourceAt s′ j) .delivered ≡ (sourceAt s j) .delivered → holds (suc j) (coreAt s′ k) ≡ holds (suc j) (coreAt s k) → claimed s′ j ≡ claimed s j
   claimed-same d e =
-      rw (w .kept .pending j, d, w .kept .m-same, boxed-same (s .cores) (s′ .cores) (s .m) (suc j) (λ l h. held-same e l))
+      rw (w .kept .pending j, d, w .kept .m-same, boxed-agree (s′ .cores) (s .cores) (s .m) (suc j) (λ l h. held-same e l))
 
   module _ (c : Consistent s) (c′ : Consistent s′) (f : MarksFollow s s′ k j) where
     was-held : Names ((coreAt s k) .message) j → claimed s j ≡ false

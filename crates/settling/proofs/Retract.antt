@@ -41,8 +41,8 @@ module _ (s : Controller) (k : ℕ) where
           alone = λ j h q f f′. not-filled f′;
         }
 
-    consistent : Consistent (retract s k)
-    consistent = box-written-consistent s (retract s k) k c k-in written fits
+    pub retract-consistent : Consistent (retract s k)
+    retract-consistent = box-written-consistent s (retract s k) k c k-in written fits
 
     marks-follow : (j : ℕ) → MarksFollow s (retract s k) k j
     marks-follow j =
@@ -52,15 +52,11 @@ module _ (s : Controller) (k : ℕ) where
           same = λ u u′. rw (source-retract s k j, putBackAt-unnamed ((coreAt s k) .message) j (sourceAt s j) u);
         }
 
-  pub retract-consistent : Consistent s → k < s .m → (coreAt s k) .message .filled ≡ true → Consistent (retract s k)
-  retract-consistent c h f = consistent c h
+    pub retract-allDirty : AllDirty s → AllDirty (retract s k)
+    retract-allDirty dirty =
+        each-core s (retract s k) k written (λ (d : Core). d .message .filled ≡ true → d .message .dirty ≡ true)
+        (λ f. not-filled f)
+        (λ j l q. dirty j l)
 
-  pub retract-allDirty : Consistent s → AllDirty s → k < s .m → AllDirty (retract s k)
-  retract-allDirty c dirty h =
-      each-core s (retract s k) k written (λ (d : Core). d .message .filled ≡ true → d .message .dirty ≡ true)
-      (λ f. not-filled c h f)
-      (λ j l q. dirty j l)
-
-  pub retract-claimed : Consistent s → k < s .m → (coreAt s k) .message .filled ≡ true → (i : ℕ) → i < s .n → claimed (retract s k) i ≡ claimed s i
-  retract-claimed c h f i l =
-      box-written-claimed s (retract s k) k i h written c (consistent c h) (marks-follow c h i)
+    pub retract-claimed : (i : ℕ) → i < s .n → claimed (retract s k) i ≡ claimed s i
+    retract-claimed i l = box-written-claimed s (retract s k) k i k-in written c retract-consistent (marks-follow i)

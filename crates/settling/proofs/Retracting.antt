@@ -1,32 +1,30 @@
 -- The loop of retractions, turn by turn: what holds once the boxes of the cores below k are looked at. Assumes nothing.
---   Retracting s state cycles k   state is s after its first cycles, all of them retractions, and no box below k is dirty
+--   Retracting s state cycles k   state is s after its first cycles, which are retractions, and no box below k is dirty
 --   stored s i k d                s with source i + 1 marked as not delivered and the record d for core k
 --   retracting-none               before the first turn
 --   retracting-dirty, -clean      a turn that meets a dirty box, and one that does not
 --   retracting-all                after the last turn
 use Prim.Native.Nat.{ℕ, _+_, _-_, _<_, _≤_}
-use mathlib.Core.Path.{_≡_, refl, sym, ap, _∙_}
+use mathlib.Core.Path.{_≡_, refl, _∙_}
 use mathlib.Core.Bool.{true, false}
 use native.Mathlib.Omega.{arith}
-use native.Mathlib.Numerals.{add-one, sub-one}
+use native.Mathlib.Numerals.{sub-one}
 use borrow.Author.Count.{below-more}
 use Rattle.model.specs.declared.Core.{Core}
 use Rattle.model.specs.declared.Controller.{Controller}
 use Rattle.model.specs.declared.Cycle.the-variants.{Retract}
 use Rattle.model.specs.Records.{coreId, emptyBox, coreWith, withDelivered, withSource, withCore, sourceAt, coreAt}
-use Rattle.model.specs.Settling.{next, retract, settle, countOf, cyclesOf}
+use Rattle.model.specs.Settling.{retract}
 use Rattle.settling.specs.Phases.{Holding, Consistent, AllDirty}
 use Rattle.settling.specs.Runs.{AfterRetractions}
 use Rattle.settling.proofs.Writes.{core-retract-same, core-retract-other, retract-sizes}
 use Rattle.settling.proofs.Retract.{retract-consistent, retract-allDirty}
 use Rattle.settling.proofs.Next.{Clean, next-retract}
-use Rattle.settling.proofs.Run.{cycle-is}
-use Rattle.settling.proofs.Forward.{settle-suc, settle-add, cyclesOf-suc, cyclesOf-add}
+use Rattle.settling.proofs.Forward.{settle-add, cyclesOf-add, Ran, ran-none, ran-more}
 use Rattle.settling.proofs.Retractions.{clean-delivering, dirty-filled}
 
 pub record Retracting (s state : Controller) (cycles k : ℕ) : Type 0 where
-  pub state-is : state ≡ settle cycles s
-  pub counted : cyclesOf cycles s ≡ cycles
+  pub ran : Ran s state cycles
   pub consistent : Consistent state
   pub all-dirty : AllDirty state
   pub within : k ≤ s .m
@@ -36,11 +34,9 @@ pub record Retracting (s state : Controller) (cycles k : ℕ) : Type 0 where
   pub m-same : state .m ≡ s .m
 
 pub retracting-none : (s : Controller) → Consistent s → AllDirty s → Retracting s s 0 0
-unfolding settle countOf cyclesOf
 retracting-none s c all =
     record {
-      state-is = refl;
-      counted = refl;
+      ran = ran-none s;
       consistent = c;
       all-dirty = all;
       within = omega arith;
@@ -65,8 +61,7 @@ module _ (s state : Controller) (cycles k : ℕ) (r : Retracting s state cycles 
   passed : (coreAt state k) .message .dirty ≡ false → Retracting s state cycles (k + 1)
   passed e =
       record {
-        state-is = r .state-is;
-        counted = r .counted;
+        ran = r .ran;
         consistent = r .consistent;
         all-dirty = r .all-dirty;
         within = omega arith;
@@ -90,21 +85,15 @@ module _ (s state : Controller) (cycles k : ℕ) (r : Retracting s state cycles 
     pub named : Holding state (coreAt state k)
     named = r .consistent .backed k core-in filled
 
-    retracts : next (settle cycles s) ≡ Retract (coreId k)
-    retracts = rw (← r .state-is) (next-retract state k core-in (r .clean) dirty)
-
     emptied-clean : (j : ℕ) → j < k → (coreAt (retract state k) j) .message .dirty ≡ false
     emptied-clean j p = rw (core-retract-other state k j (omega arith)) (r .clean j p)
 
     retracted : Retracting s (retract state k) (cycles + 1) (k + 1)
     retracted =
         record {
-          state-is =
-              rw (add-one, settle-suc)
-              (ap (λ (x : Controller). retract x k) (r .state-is) ∙ sym (cycle-is (settle cycles s) (Retract (coreId k)) retracts));
-          counted = rw (add-one, cyclesOf-suc, retracts) (omega (arith, r .counted));
-          consistent = retract-consistent state k (r .consistent) core-in filled;
-          all-dirty = retract-allDirty state k (r .consistent) (r .all-dirty) core-in;
+          ran = ran-more (r .ran) (Retract (coreId k)) (next-retract state k core-in (r .clean) dirty) refl;
+          consistent = retract-consistent state k (r .consistent) core-in;
+          all-dirty = retract-allDirty state k (r .consistent) core-in (r .all-dirty);
           within = omega arith;
           cycles-le = omega arith;
           clean =
@@ -127,6 +116,6 @@ retracting-all s state cycles k r h =
       n-same = r .n-same;
       m-same = r .m-same;
       cycles-le = omega arith;
-      settles = λ f. rw (r .state-is) (settle-add cycles f s);
-      counts = λ f. rw (r .state-is) (omega (arith, cyclesOf-add cycles f s, r .counted));
+      settles = λ f. rw (r .ran .state-is) (settle-add cycles f s);
+      counts = λ f. rw (r .ran .state-is) (omega (arith, cyclesOf-add cycles f s, r .ran .counted));
     }

@@ -11,11 +11,11 @@ use Rattle.model.specs.declared.Controller.{Controller}
 use Rattle.model.specs.declared.Cycle.the-variants.{Retract}
 use Rattle.model.specs.Records.{coreId, coreAt}
 use Rattle.model.specs.Settling.{retract}
-use Rattle.model.proofs.Bools.{clash, Flag, on, off, flag}
+use Rattle.model.proofs.Bools.{clash, confirmed}
+use Rattle.model.proofs.Counting.{reached, reached-le, reached-more}
 use Rattle.settling.specs.Phases.{Consistent, AllDirty, Delivering}
 use Rattle.settling.proofs.Writes.{core-retract-same, core-retract-other, retract-sizes}
 use Rattle.settling.proofs.Retract.{retract-consistent, retract-allDirty, retract-claimed}
-use Rattle.settling.proofs.Reach.{reached, reached-le, reached-more}
 use Rattle.settling.proofs.Next.{Clean, Next, resting, retracting, arbitrating, next-cases}
 use Rattle.settling.proofs.Run.{Ended, ended-step, ended-within}
 use Rattle.settling.proofs.Deliveries.{deliveries-end}
@@ -33,11 +33,8 @@ clean-delivering all clean = record { clean = clean; covered = λ j k p q e. cla
 
 module _ (s : Controller) (c : Consistent s) (k : ℕ) (h : k < s .m) (dirty : (coreAt s k) .message .dirty ≡ true) where
   pub dirty-filled : (coreAt s k) .message .filled ≡ true
-  dirty-filled = go (flag ((coreAt s k) .message .filled))
-    where
-      go : Flag ((coreAt s k) .message .filled) → (coreAt s k) .message .filled ≡ true
-      go (on p) = p
-      go (off p) = clash dirty (ap (λ (b : MessageBox). b .dirty) (c .empty-box k h p))
+  dirty-filled =
+      confirmed ((coreAt s k) .message .filled) (λ p. clash dirty (ap (λ (b : MessageBox). b .dirty) (c .empty-box k h p)))
 
   mark-retract : (j : ℕ) → 1 ≤ mark (retract s k) j → 1 ≤ mark s j
   mark-retract j p = go (ℕ-discrete j k)
@@ -68,10 +65,9 @@ dirty-end (suc f) s c all enough = go (next-cases s (c .some-source) (c .some-co
     go (retracting k e h dirty) rest =
         let fewer : dirtyBoxes (retract s k) < dirtyBoxes s = fewer-dirty s c k h dirty in
         let same : (retract s k) .m ≡ s .m = retract-sizes s k .1 in
-        let filled : (coreAt s k) .message .filled ≡ true = dirty-filled s c k h dirty in
         ended-within
-        (ended-step s (Retract (coreId k)) e (retract-sizes s k .0) (retract-claimed s k c h filled)
-        (rest (retract s k) (retract-consistent s k c h filled) (retract-allDirty s k c all h) (omega arith)))
+        (ended-step s (Retract (coreId k)) e (retract-sizes s k .0) (retract-claimed s k c h)
+        (rest (retract s k) (retract-consistent s k c h) (retract-allDirty s k c h all) (omega arith)))
         (dirtyBoxes s) (s .m) (omega arith) (omega arith)
 
 pub retractions-end : (s : Controller) → Consistent s → AllDirty s → (f : ℕ) → 2 * s .m ≤ f → Ended s f (s .m) (s .m)

@@ -26,8 +26,8 @@ use Rattle.settling.proofs.Writes.{putBackAt-unnamed, source-putBack, l
 use Rattle.settling.proofs.Keyed.{Keyed}
 
 -- a record and its key stored at the same index
-stored : {A : Type 0} (f : A → ℕ) (d : A) (l : List A) (ks : List ℕ) (n i : ℕ) (x : A) (v : ℕ) → i < length l → i < length ks → v ≡ f x → ((j : ℕ) → j < n → getD ks j 0 ≡ f (getD l j d)) → (j : ℕ) → j < n → getD (set ks i v) j 0 ≡ f (getD (set l i x) j d)
-stored f d l ks n i x v h h′ e keys j p = go (ℕ-discrete j i)
+both-stored : {A : Type 0} (f : A → ℕ) (d : A) (l : List A) (ks : List ℕ) (n i : ℕ) (x : A) (v : ℕ) → i < length l → i < length ks → v ≡ f x → ((j : ℕ) → j < n → getD ks j 0 ≡ f (getD l j d)) → (j : ℕ) → j < n → getD (set ks i v) j 0 ≡ f (getD (set l i x) j d)
+both-stored f d l ks n i x v h h′ e keys j p = go (ℕ-discrete j i)
   where
     go : Dec (j ≡ i) → getD (set ks i v) j 0 ≡ f (getD (set l i x) j d)
     go (yes q) = rw (q, getD-set-same ks i v 0 h′, getD-set-same l i x d h) e
@@ -60,7 +60,7 @@ module _ {s : Controller} {i k : ℕ} (a : Arbitrated s i k) {ks cs : List ℕ} 
         record {
           state-is = rw (sub-one, filled);
           ranks =
-              stored rank noSource (s .sources) ks (s .n) old (withDelivered false (sourceAt s old)) v
+              both-stored rank noSource (s .sources) ks (s .n) old (withDelivered false (sourceAt s old)) v
               (omega (arith, old-in, a .consistent .sources-length))
               (omega (arith, old-in, keyed .keys-length))
               e
@@ -94,13 +94,13 @@ module _ {s : Controller} {i k : ℕ} (a : Arbitrated s i k) {ks cs : List ℕ} 
     keyed-delivered =
         record {
           ranks =
-              stored rank noSource (putBack ((coreAt s k) .message) (s .sources)) ks₁ (s .n) i (withDelivered true (sourceAt s i)) 0
+              both-stored rank noSource (putBack ((coreAt s k) .message) (s .sources)) ks₁ (s .n) i (withDelivered true (sourceAt s i)) 0
               (rw length-putBack (index-in a))
               (omega (arith, b .keys-length, a .source-in, a .consistent .n-le))
               (rank-delivered (sourceAt s i))
               (rw (b .state-is) at (b .ranks));
           currents =
-              stored currentPriority noCore (s .cores) cs (s .m) k (delivered-to s i k) ((sourceAt s₁ i) .priority)
+              both-stored currentPriority noCore (s .cores) cs (s .m) k (delivered-to s i k) ((sourceAt s₁ i) .priority)
               (number-in a)
               (omega (arith, keyed .currents-length, a .core-in, a .consistent .m-le))
               (ap (λ (r : Source). r .priority) source-same)

@@ -20,18 +20,11 @@ use Rattle.model.specs.declared.Controller.{Controller}
 use Rattle.model.specs.Records.{noSource, noCore, sourceId, indexOf, withDelivered, emptyBox, holding, coreWith, sourceAt, coreAt}
 use Rattle.model.specs.Settling.{putBack, retract, deliver}
 use Rattle.model.proofs.Bools.{clash, Flag, on, off, flag}
+use Rattle.model.proofs.Writes.{read-kept}
 
--- ---- a store
+-- ---- a store of what becomes of an element
 
 module _ {A : Type 0} where
-  -- a store changes nothing that it agrees on with what was there
-  set-blind : {B : Type 0} (f : A → B) (l : List A) (i : ℕ) (y d : A) → f y ≡ f (getD l i d) → (j : ℕ) → f (getD (set l i y) j d) ≡ f (getD l j d)
-  set-blind f [] i y d e j = refl
-  set-blind f (x ∷ xs) zero y d e zero = e
-  set-blind f (x ∷ xs) zero y d e (suc j) = refl
-  set-blind f (x ∷ xs) (suc i) y d e zero = refl
-  set-blind f (x ∷ xs) (suc i) y d e (suc j) = set-blind f xs i y d e j
-
   -- past the end too, where the blank value stays as it is
   changed-same : (f : A → A) (d : A) → f d ≡ d → (l : List A) (i : ℕ) → getD (set l i (f (getD l i d))) i d ≡ f (getD l i d)
   changed-same f d e [] i = sym e
@@ -118,7 +111,7 @@ module _ (s : Controller) (k : ℕ) where
   pub core-retract-configured : (j : ℕ) → (coreAt (retract s k) j) .configured ≡ (coreAt s j) .configured
   unfolding retract
   core-retract-configured j =
-      set-blind (λ (c : Core). c .configured) (s .cores) k (coreWith ((coreAt s k) .configured) emptyBox) noCore refl j
+      read-kept (λ i c. c .configured) (s .cores) k j (coreWith ((coreAt s k) .configured) emptyBox) noCore refl
 
   pub source-retract : (j : ℕ) → sourceAt (retract s k) j ≡ putBackAt ((coreAt s k) .message) j (sourceAt s j)
   unfolding retract
@@ -156,7 +149,7 @@ module _ (s : Controller) (i k : ℕ) where
 
   pub core-deliver-configured : (j : ℕ) → (coreAt (deliver s i k) j) .configured ≡ (coreAt s j) .configured
   unfolding deliver
-  core-deliver-configured j = set-blind (λ (c : Core). c .configured) (s .cores) k (delivered-to s i k) noCore refl j
+  core-deliver-configured j = read-kept (λ x c. c .configured) (s .cores) k j (delivered-to s i k) noCore refl
 
   pub source-deliver-same : i < length (s .sources) → sourceAt (deliver s i k) i ≡ withDelivered true (sourceAt s i)
   unfolding deliver
@@ -174,8 +167,8 @@ module _ (s : Controller) (i k : ℕ) where
   pub unmarked-deliver : (j : ℕ) → withDelivered false (sourceAt (deliver s i k) j) ≡ withDelivered false (sourceAt s j)
   unfolding deliver
   unmarked-deliver j =
-      set-blind (withDelivered false) (putBack ((coreAt s k) .message) (s .sources)) i (withDelivered true (sourceAt s i)) noSource
-      (sym (unmarked-putBack ((coreAt s k) .message) (s .sources) i)) j ∙
+      read-kept (λ x r. withDelivered false r) (putBack ((coreAt s k) .message) (s .sources)) i j (withDelivered true (sourceAt s i)) noSource
+      (sym (unmarked-putBack ((coreAt s k) .message) (s .sources) i)) ∙
       unmarked-putBack ((coreAt s k) .message) (s .sources) j
 
   pub deliver-sizes : ((deliver s i k) .n ≡ s .n) × ((deliver s i k) .m ≡ s .m)

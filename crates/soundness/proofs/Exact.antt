@@ -12,10 +12,10 @@ use mathlib.Core.Path.{_≡_, refl, sym, _∙_}
 use mathlib.Core.Logic.{_↔_}
 use mathlib.Core.Bool.{Bool, true, false, not, _&&_, _||_}
 use lib.Dec.{ltb, leb, eqb}
-use borrow.Author.Tests.{ltb-true, ltb-false, leb-true, eqb-true, lt-ltb, le-ltb, le-leb, eq-eqb}
+use borrow.Author.Tests.{ltb-true, ltb-false, leb-true, eqb-true, lt-ltb, le-ltb, le-leb, eq-eqb, not-true, not-false}
 use Rattle.model.specs.Walks.{every}
 use Rattle.model.specs.WellFormed.{between}
-use Rattle.model.proofs.Bools.{and-in, and-l, and-r, not-in, not-out, not-not, clash, Flag, on, off, flag}
+use Rattle.model.proofs.Bools.{and-in, and-l, and-r, not-in, clash, Flag, on, off, flag}
 use Rattle.model.proofs.Walks.{every-out, every-in}
 
 infixl 35 _and_
@@ -28,7 +28,7 @@ pub flag-exact : (a : Bool) → Exact a (a ≡ true)
 flag-exact a = (λ e. e, λ e. e)
 
 pub not-exact : (a : Bool) → Exact (not a) (a ≡ false)
-not-exact a = (not-out a, not-in)
+not-exact a = (not-true a, not-in)
 
 pub leb-exact : (a b : ℕ) → Exact (leb a b) (a ≤ b)
 leb-exact a b = (leb-true a b, le-leb a b)
@@ -48,7 +48,7 @@ pub between-exact : (low high x : ℕ) → Exact (between low high x) ((low ≤ 
 between-exact low high x = leb-exact low x and leb-exact x high
 
 pub refuted-exact : {b : Bool} {B : Type 0} → Exact b B → Exact (not b) (¬ B)
-refuted-exact {b} {B} y = (λ e p. clash (y .1 p) (not-out b e), λ r. go (flag b) r)
+refuted-exact {b} {B} y = (λ e p. clash (y .1 p) (not-true b e), λ r. go (flag b) r)
   where
     go : Flag b → ¬ B → not b ≡ true
     go (on p) r = absurd (r (y .0 p))
@@ -76,17 +76,17 @@ pub passes : {b : Bool} {B : Type 0} → Exact b B → B → true ≡ b
 passes y p = sym (y .1 p)
 
 pub refused : {b : Bool} {B : Type 0} → Exact b B → ¬ B → false ≡ b
-refused {b} y r = sym (not-out b (refuted-exact y .1 r))
+refused {b} y r = sym (not-true b (refuted-exact y .1 r))
 
 -- an answer r of the test
 pub given : {r b : Bool} {B : Type 0} → Exact b B → r ≡ b → Exact r B
 given y e = (λ q. y .0 (sym e ∙ q), λ p. e ∙ y .1 p)
 
 pub accepted : {r b : Bool} {B : Type 0} → Exact b B → r ≡ b → not r ≡ false → B
-accepted {r} y e q = given y e .0 (not-not r q)
+accepted {r} y e q = given y e .0 (not-false r q)
 
 pub rejected : {r b : Bool} {B : Type 0} → Exact b B → r ≡ b → not r ≡ true → ¬ B
-rejected {r} y e q p = clash (given y e .1 p) (not-out r q)
+rejected {r} y e q p = clash (given y e .1 p) (not-true r q)
 
 pub agree : {a b : Bool} {A B : Type 0} → Exact a A → Exact b B → (A → B) → (B → A) → a ≡ b
 agree {a} {b} x y to back = go (flag a)

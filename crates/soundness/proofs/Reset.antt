@@ -7,6 +7,7 @@ use mathlib.Core.Bool.{false}
 use lib.ListN.{getD, replicate, length-replicate, getD-replicate}
 use native.Mathlib.Nat.{pow-le-pow-right}
 use native.Mathlib.Omega.{arith}
+use borrow.Author.Tests.{not-true}
 use Rattle.model.specs.declared.Core.{Core}
 use Rattle.model.specs.Records.{maxSources, maxCores, noSource, noCore, resetSource, resetCore, reset, sourceAt, coreAt}
 use Rattle.model.specs.Priorities.{floorLog2, priorityWidth, topPriority}
@@ -14,7 +15,7 @@ use Rattle.model.specs.Requests.{candidate}
 use Rattle.model.specs.WellFormed.{sizesInRange}
 use Rattle.model.specs.Commands.{make}
 use Rattle.model.specs.Statements.{ResetWellFormed, MakesExactly}
-use Rattle.model.proofs.Bools.{not-out, clash}
+use Rattle.model.proofs.Bools.{clash}
 use Rattle.soundness.proofs.Exact.{refuted-exact}
 use Rattle.soundness.proofs.Clauses.{sizes-exact, SourceFits}
 
@@ -68,4 +69,4 @@ reset-wellFormed n m r =
 pub makes-exactly : MakesExactly
 unfolding make
 makes-exactly n m =
-    (λ r. rw (sizes-exact n m .1 r), λ h. rw (not-out (sizesInRange n m) (refuted-exact (sizes-exact n m) .1 h)))
+    (λ r. rw (sizes-exact n m .1 r), λ h. rw (not-true (sizesInRange n m) (refuted-exact (sizes-exact n m) .1 h)))

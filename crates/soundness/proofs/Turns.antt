@@ -8,9 +8,9 @@ use mathlib.Core.Bool.{Bool, true, false, not, _||_, _&&_, and-true, and-false}
 use native.Mathlib.Omega.{arith}
 use native.Mathlib.Numerals.{add-one}
 use lib.Dec.{ltb}
-use borrow.Author.Tests.{lt-ltb, le-ltb}
+use borrow.Author.Tests.{lt-ltb, le-ltb, not-true, not-false}
 use Rattle.model.specs.Walks.{every}
-use Rattle.model.proofs.Bools.{or-in-l, not-out, not-not}
+use Rattle.model.proofs.Bools.{or-in-l}
 use Rattle.model.proofs.Walks.{every-in}
 
 abbrev pub since : (ℕ → Bool) → ℕ → ℕ → Bool
@@ -26,7 +26,7 @@ module _ (f : ℕ → Bool) (from k : ℕ) where
 
     pub since-turn : from ≤ k → {r : Bool} → r ≡ f k → (not r ≡ true → false ≡ every (k + 1) (since f from)) × (not r ≡ false → fresh ≡ every (k + 1) (since f from))
     unfolding every
-    since-turn h {r} e = (λ q. rw (not-out r q, and-false) at turn, λ q. rw (not-not r q, and-true) at turn)
+    since-turn h {r} e = (λ q. rw (not-true r q, and-false) at turn, λ q. rw (not-false r q, and-true) at turn)
       where
         turn : fresh && r ≡ every (k + 1) (since f from)
         turn = rw (add-one, le-ltb k from h, p, e)

@@ -1,26 +1,23 @@
 -- The loops' answers together: what they say of a well-formed state, and that they make the state well formed. Assumes nothing.
---   top-small        the top priority fits 16 binary digits
---   covered-le       in a well-formed state no covered priority is above the least current one
---   sources-fit      in a well-formed state every source fits, and the spare ones are reset
---   well-formed      a state that passed every test is well formed
-use Prim.Native.Nat.{ℕ, suc, _+_, _*_, _^_, _<_, _≤_}
-use mathlib.Core.Path.{_≡_, sym, _∙_, ap}
-use mathlib.Core.Bool.{Bool, true, not}
+--   spare-cores-exact    the test of the spare cores says that each of them is reset
+--   covered-le           in a well-formed state no covered priority is above the least current one
+--   sources-fit          in a well-formed state every source fits, and the spare ones are reset
+--   well-formed          a state that passed every test is well formed
+use Prim.Native.Nat.{ℕ, _<_, _≤_}
+use mathlib.Core.Path.{_≡_, sym, _∙_}
+use mathlib.Core.Bool.{Bool}
 use mathlib.Core.List.{List, map}
 use native.Mathlib.Omega.{arith}
-use native.Mathlib.Nat.{pow-suc}
 use lib.ListN.{length, getD, length-map}
-use Rattle.model.specs.declared.Source.{Source}
 use Rattle.model.specs.declared.Core.{Core}
 use Rattle.model.specs.declared.Controller.{Controller}
 use Rattle.model.specs.Records.{maxSources, maxCores, noCore, resetCore, sourceAt, coreAt}
-use Rattle.model.specs.Priorities.{floorLog2, priorityWidth, topPriority}
+use Rattle.model.specs.Priorities.{topPriority}
 use Rattle.model.specs.Walks.{every}
-use Rattle.model.specs.Requests.{candidate, waiting}
 use Rattle.model.specs.WellFormed.{WellFormed}
 use Rattle.model.specs.Statements.{InRange}
-use Rattle.model.proofs.Bools.{and-l}
-use Rattle.model.proofs.Priorities.{floor-log2-exact}
+use Rattle.model.proofs.Candidates.{candidate-pending}
+use Rattle.model.proofs.Priorities.{top-lt}
 use Rattle.soundness.specs.Loops.{spareCore}
 use Rattle.soundness.proofs.Exact.{Exact, from-exact, every-exact}
 use Rattle.soundness.proofs.Clauses.{reset-core-exact}
@@ -28,14 +25,6 @@ use Rattle.soundness.proofs.Test.{sources-apart}
 use Rattle.soundness.proofs.Fits.{fitsAt, AllFit}
 use Rattle.soundness.proofs.Cores.{CoreSound}
 use Rattle.soundness.proofs.Marks.{Boxes, Lowest}
-
-four-times : (k : ℕ) → 2 ^ (k + 2) ≡ 4 * 2 ^ k
-four-times k =
-    let e : k + 2 ≡ suc (suc k) = omega arith in ap (λ (i : ℕ). 2 ^ i) e ∙ omega (arith, pow-suc 2 k, pow-suc 2 (suc k))
-
-pub top-small : (n : ℕ) → 1 ≤ n → n ≤ maxSources → topPriority n ≤ 65535
-unfolding topPriority priorityWidth
-top-small n h g = omega (arith, floor-log2-exact n h (omega arith) .0, four-times (floorLog2 n))
 
 -- an array's length, as its elements' values have it
 pub unmapped : {A B : Type 0} (f : A → B) (l : List A) (n : ℕ) → length (map f l) ≡ n → length l ≡ n
@@ -51,7 +40,7 @@ spare-cores-exact l m = every-exact maxCores (λ k. from-exact k m (reset-core-e
 module _ {s : Controller} {top lowest covered k : ℕ} {seen : List Bool} (e : top ≡ topPriority (s .n)) (all : k ≡ s .m) (b : Boxes s seen covered k) (l : Lowest s lowest k) where
   module _ (w : WellFormed s) where
     small : topPriority (s .n) ≤ 65535
-    small = top-small (s .n) (w .some-source) (w .n-le)
+    small = omega (arith, top-lt (s .n) (w .some-source) (omega (arith, w .n-le)), w .n-le)
 
     pub covered-le : covered ≤ lowest
     covered-le =
@@ -60,17 +49,12 @@ module _ {s : Controller} {top lowest covered k : ℕ} {seen : List Bool} (e : t
         l .greatest ((coreAt s j) .configured) (omega (arith, small, w .configured-core j (omega arith)))
         (λ i g. w .covered-settled j i (omega arith) (omega arith) f))
 
-    candidate-pending : (i : ℕ) → candidate (sourceAt s i) ≡ true → (sourceAt s i) .pending ≡ true
-    candidate-pending i f =
-        let r : Source = sourceAt s i in
-        and-l (r .pending) (not (r .delivered)) (and-l (waiting r) (not (r .masked)) f)
-
     fits : (i : ℕ) → i < s .n → fitsAt (s .sources) top lowest i
     fits i h =
         rw e (
           record { configured = w .configured-source i h; request = w .request-range i h; idle = w .idle-source i h },
           λ f.
-              l .greatest ((sourceAt s i) .priority) (omega (arith, small, w .request-range i h (candidate-pending i f)))
+              l .greatest ((sourceAt s i) .priority) (omega (arith, small, w .request-range i h (candidate-pending (sourceAt s i) f)))
               (λ j g. w .candidates-settled i j h (omega arith) f),
         )
 

@@ -4,7 +4,7 @@ use Prim.Native.Nat.{ℕ, _+_, _/_, _<_}
 use mathlib.Core.List.{List}
 use native.Mathlib.Omega.{arith}
 use Rattle.model.specs.Walks.{leftHalf}
-use Rattle.arbitration.proofs.Keys.{at-most-one, highest-inside, beside-right, beside-left}
+use Rattle.arbitration.proofs.Keys.{at-most-one, highest-inside, Beside, beside}
 use borrow.Fn.Kinds.{In}
 use borrow.Fn.PlainCycle.{Measures, is, falls, and}
 use Rattle.arbitration.proofs.highest.Reads as highest
@@ -56,27 +56,26 @@ highest-add-result :
     highest-lts.Need-add-result (highest-below t, highest.Post) (highest-at t) highest.Post
 highest-add-result t c = omega arith
 
+-- a range of two
+two-beside : (t : ℕ) (c : highest-lts.After-if33 (highest-below t, highest.Post) (highest-at t) highest.Post) →
+    let a = c .before .before .before .before .args in
+    Beside (a .keys .now) (a .lo) (a .len) (a .lo) (a .lo + 1)
+two-beside t c =
+    let a = c .before .before .before .before .args in
+    let ks : List ℕ = a .keys .now in
+    beside ks (a .lo) 1 1 (a .len) (a .lo) (a .lo + 1) (omega arith) (omega arith) (omega arith)
+    (at-most-one ks (a .lo) 1 (omega arith))
+    (at-most-one ks (a .lo + 1) 1 (omega arith))
+
 highest-returns-2 :
     (t : ℕ) →
     highest-lts.Need-returns-2 (highest-below t, highest.Post) (highest-at t) highest.Post
-highest-returns-2 t c =
-    let a = c .before .before .before .before .before .args in
-    let ks : List ℕ = a .keys .now in
-    beside-right ks (a .lo) 1 1 (a .len) (a .lo) (a .lo + 1) (omega arith) (omega arith) (omega arith)
-    (at-most-one ks (a .lo) 1 (omega arith))
-    (at-most-one ks (a .lo + 1) 1 (omega arith))
-    (c .if3 .taken)
+highest-returns-2 t c = two-beside t (c .before) .right (c .if3 .taken)
 
 highest-returns-3 :
     (t : ℕ) →
     highest-lts.Need-returns-3 (highest-below t, highest.Post) (highest-at t) highest.Post
-highest-returns-3 t c =
-    let a = c .before .before .before .before .before .args in
-    let ks : List ℕ = a .keys .now in
-    beside-left ks (a .lo) 1 1 (a .len) (a .lo) (a .lo + 1) (omega arith) (omega arith) (omega arith)
-    (at-most-one ks (a .lo) 1 (omega arith))
-    (at-most-one ks (a .lo + 1) 1 (omega arith))
-    (c .if3 .left)
+highest-returns-3 t c = two-beside t (c .before) .left (c .if3 .left)
 
 highest-sub-half :
     (t : ℕ) →
@@ -132,35 +131,28 @@ highest-element-copy-out-if4-2 : (t : ℕ) → highest-lts.Need-element-copy-out
 ) (highest-at t) highest.Post
 highest-element-copy-out-if4-2 t c = right-inside t (c .before)
 
+-- the halves of a longer range
+halves-beside : (t : ℕ) (c : highest-lts.After-highest2 (highest-below t, highest.Post) (highest-at t) highest.Post) →
+    let a = c .before .before .before .before .args in
+    Beside (a .keys .now) (a .lo) (a .len) (c .before .highest .result) (c .highest2 .result)
+halves-beside t c =
+    let a = c .before .before .before .before .args in
+    beside (a .keys .now) (a .lo) (leftHalf (a .len)) (a .len / 2) (a .len) (c .before .highest .result) (c .highest2 .result)
+    (omega arith)
+    (omega arith)
+    (omega arith)
+    (c .before .highest .ensures)
+    (c .highest2 .ensures)
+
 highest-returns-4 :
     (t : ℕ) →
     highest-lts.Need-returns-4 (highest-below t, highest.Post) (highest-at t) highest.Post
-highest-returns-4 t c =
-    let at-right = c .before .before .before in
-    let at-left = at-right .before in
-    let a = at-left .before .before .before .args in
-    beside-right (a .keys .now) (a .lo) (leftHalf (a .len)) (a .len / 2) (a .len) (at-left .highest .result) (at-right .highest2 .result)
-    (omega arith)
-    (omega arith)
-    (omega arith)
-    (at-left .highest .ensures)
-    (at-right .highest2 .ensures)
-    (c .if4 .taken)
+highest-returns-4 t c = halves-beside t (c .before .before .before) .right (c .if4 .taken)
 
 highest-returns-5 :
     (t : ℕ) →
     highest-lts.Need-returns-5 (highest-below t, highest.Post) (highest-at t) highest.Post
-highest-returns-5 t c =
-    let at-right = c .before .before .before in
-    let at-left = at-right .before in
-    let a = at-left .before .before .before .args in
-    beside-left (a .keys .now) (a .lo) (leftHalf (a .len)) (a .len / 2) (a .len) (at-left .highest .result) (at-right .highest2 .result)
-    (omega arith)
-    (omega arith)
-    (omega arith)
-    (at-left .highest .ensures)
-    (at-right .highest2 .ensures)
-    (c .if4 .left)
+highest-returns-5 t c = halves-beside t (c .before .before .before) .left (c .if4 .left)
 
 pub +highest-spec : {M : Type 1} → statement M
 +highest-spec =

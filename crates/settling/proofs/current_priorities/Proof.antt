@@ -4,7 +4,7 @@ use Prim.Native.Nat.{_-_}
 use lib.ListN.{getD}
 use Rattle.model.specs.Records.{noCore, maxCores}
 use Rattle.model.specs.Requests.{currentPriority}
-use Rattle.settling.proofs.Keys.{Filled, filled-none, filled-more, filled-all}
+use Rattle.settling.proofs.Filling.{Filled, filled-none, filled-more, filled-all}
 use borrow.Author.Needs.{needs}
 use native.Mathlib.Omega.{arith}
 use Rattle.settling.proofs.current_priorities.Statement.{statement}

@@ -3,7 +3,7 @@ use Prim.Native.Nat.{_-_}
 use lib.ListN.{getD}
 use Rattle.model.specs.Records.{noSource, maxSources}
 use Rattle.model.specs.Arbitration.{rank}
-use Rattle.settling.proofs.Keys.{Filled, filled-none, filled-more, filled-all}
+use Rattle.settling.proofs.Filling.{Filled, filled-none, filled-more, filled-all}
 use borrow.Author.Needs.{needs}
 use native.Mathlib.Omega.{arith}
 use Rattle.settling.proofs.ranks.Statement.{statement}

@@ -13,6 +13,7 @@ use Rattle.model.specs.Priorities.{topPriority}
 use Rattle.model.specs.Walks.{every}
 use Rattle.model.specs.WellFormed.{wellFormed}
 use Rattle.model.specs.Statements.{InRange}
+use Rattle.model.proofs.Priorities.{top-lt}
 use Rattle.soundness.specs.Loops.{spareCore}
 use Rattle.soundness.proofs.Exact.{flag-exact, refused, given, accepted, rejected, agree}
 use Rattle.soundness.proofs.Clauses.{sizes-exact}
@@ -21,7 +22,7 @@ use Rattle.soundness.proofs.Turns.{since-begin, since-turn, since-end}
 use Rattle.soundness.proofs.Fits.{sources-fit-exact}
 use Rattle.soundness.proofs.Cores.{CoreNames, core-fits-exact, CoreSound, core-sound, idAt, backedAt, names-out, backed-out}
 use Rattle.soundness.proofs.Marks.{Boxes, boxes-begin, marked-twice, filled-turn, empty-turn, Lowest, lowest-begin, lowest-lower, lowest-same}
-use Rattle.soundness.proofs.Verdict.{top-small, unmapped, spare-cores-exact, covered-le, sources-fit, well-formed}
+use Rattle.soundness.proofs.Verdict.{unmapped, spare-cores-exact, covered-le, sources-fit, well-formed}
 use Rattle.soundness.proofs.well_formed.Statement.{statement}
 use Rattle.soundness.proofs.well_formed.Tie as tie
 
@@ -87,7 +88,7 @@ top-priority-requires c κs = tt
 
 cast-top : tie.Need-cast-top Inv-loop μ-loop Inv-loop2 μ-loop2
 cast-top c =
-    let r = in-range (c .before) in omega (arith, c .top-priority .ensures, top-small (c .before .before .before .args .t1 .n) (r .some-source) (r .n-le))
+    let r = in-range (c .before) in omega (arith, c .top-priority .ensures, r .n-le, top-lt (c .before .before .before .args .t1 .n) (r .some-source) (omega (arith, r .n-le)))
 
 loop-holds : tie.Need-loop-holds Inv-loop μ-loop Inv-loop2 μ-loop2
 loop-holds c =

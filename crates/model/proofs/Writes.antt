@@ -1,6 +1,6 @@
 -- What is read after one element of a list is written, whatever the index read. Assumes nothing.
 --   read-set        a property of it: of the element written where that is read, else of the element that was there
---   read-kept       the element written reads as the one before it: what is read stays
+--   read-kept       the element written reads as the one before it: what is read stays, past the list's end too
 --   read-written    a choice by whether the place written is read, between what the two elements read
 use Prim.Native.Nat.{ℕ, _<_}
 use mathlib.Core.Path.{_≡_, refl}
@@ -9,8 +9,9 @@ use mathlib.Core.List.{List}
 use mathlib.Core.Bool.{cond}
 use lib.Dec.{eqb}
 use lib.ListN.{length, getD, set}
-use lib.Seq.{getD-set-same, getD-set-other}
-use native.Mathlib.Decide.{ℕ-discrete}
+use lib.Seq.{set-out, getD-set-same, getD-set-other}
+use native.Mathlib.Omega.{arith}
+use native.Mathlib.Decide.{decLt, ℕ-discrete}
 use borrow.Author.Tests.{eq-eqb, ne-eqb}
 
 module _ {A : Type 0} (P : A → Type 0) (l : List A) (i j : ℕ) (a d : A) where
@@ -21,13 +22,17 @@ module _ {A : Type 0} (P : A → Type 0) (l : List A) (i j : ℕ) (a d : A) wher
       go (yes e) = rw (e, getD-set-same l i a d fits) (same e)
       go (no h) = rw (getD-set-other l i j a d h) (other h)
 
-module _ {A B : Type 0} (read : ℕ → A → B) (l : List A) (i j : ℕ) (a d : A) (fits : i < length l) where
+module _ {A B : Type 0} (read : ℕ → A → B) (l : List A) (i j : ℕ) (a d : A) where
   pub read-kept : read i a ≡ read i (getD l i d) → read j (getD (set l i a) j d) ≡ read j (getD l j d)
-  read-kept same = read-set (λ x. read j x ≡ read j (getD l j d)) l i j a d fits (λ e. rw e same) (λ h. refl)
+  read-kept same = go (decLt i (length l))
+    where
+      go : Dec (i < length l) → read j (getD (set l i a) j d) ≡ read j (getD l j d)
+      go (yes fits) = read-set (λ x. read j x ≡ read j (getD l j d)) l i j a d fits (λ e. rw e same) (λ h. refl)
+      go (no past) = rw (set-out l i a (omega arith))
 
   -- x and y are equal exactly where the place written is read
-  pub read-written : (x y : ℕ) → (x ≡ y) ↔ (j ≡ i) → {v u : B} → (j ≡ i → v ≡ read j a) → u ≡ read j (getD l j d) → cond (eqb x y) v u ≡ read j (getD (set l i a) j d)
-  read-written x y place {v} {u} new old =
+  pub read-written : i < length l → (x y : ℕ) → (x ≡ y) ↔ (j ≡ i) → {v u : B} → (j ≡ i → v ≡ read j a) → u ≡ read j (getD l j d) → cond (eqb x y) v u ≡ read j (getD (set l i a) j d)
+  read-written fits x y place {v} {u} new old =
       read-set (λ q. cond (eqb x y) v u ≡ read j q) l i j a d fits
       (λ e. rw (eq-eqb x y (place .1 e)) (new e))
       (λ h. rw (ne-eqb x y (λ e. h (place .0 e))) old)
