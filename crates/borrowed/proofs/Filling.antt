@@ -9,13 +9,13 @@ use mathlib.Core.WellFounded.{WellFounded, InvImage·wf}
 use native.Mathlib.Omega.{arith}
 use lib.ListN.{length, getD, set, replicate, length-set, length-replicate}
 use lib.Seq.{getD-set-same, getD-set-other}
-use lib.Dec.{leb, eqb}
+use lib.Dec.{leb}
 use lib.WfN.{Nat·lt-wfRel}
-use borrow.Author.Tests.{leb-true, eqb-true, eqb-false}
+use borrow.Author.Count.{below-more}
+use borrow.Author.Tests.{leb-true}
 use Rattle.model.specs.declared.Source.{Source}
 use Rattle.model.specs.Records.{maxSources, noSource}
 use Rattle.model.specs.Arbitration.{rank}
-use Rattle.model.proofs.Bools.{Flag, on, off, flag}
 use Rattle.borrowed.specs.Keys.{readOf, RanksOf}
 
 -- what is read lies inside the list, and inside the row
@@ -72,11 +72,10 @@ module _ (l : List Source) where
     in-row = omega (arith, read-inside (length l) .1, f .full)
 
     pub more-ranks : RanksOf l (f .i + 1) (set (f .keys) (f .i) k)
-    more-ranks j h = go (flag (eqb j (f .i)))
-      where
-        go : Flag (eqb j (f .i)) → getD (set (f .keys) (f .i) k) j 0 ≡ rank (getD l j noSource)
-        go (on q) = rw (eqb-true j (f .i) q) (getD-set-same (f .keys) (f .i) k 0 in-row ∙ e)
-        go (off q) = getD-set-other (f .keys) (f .i) j k 0 (eqb-false j (f .i) q) ∙ f .ranks j (omega (arith, eqb-false j (f .i) q))
+    more-ranks =
+        below-more (λ (j : ℕ). getD (set (f .keys) (f .i) k) j 0 ≡ rank (getD l j noSource)) (f .i)
+        (λ j h. getD-set-other (f .keys) (f .i) j k 0 (omega arith) ∙ f .ranks j h)
+        (getD-set-same (f .keys) (f .i) k 0 in-row ∙ e)
 
     abbrev pub one-more : Filled l
     one-more =

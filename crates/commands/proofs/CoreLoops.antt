@@ -1,5 +1,4 @@
 -- The two loops over the cores, and the flags of a claimed request. Assumes nothing.
---   unmapped                       the length of an array's list, from what owning the array tells
 --   holds-unfilled, holds-other    an empty box, and one of another source, does not hold the request
 --   unboxed-none, -more, -all      no box of the first k cores holds it: at 0, one core further, and at the end
 --   not-pending, not-delivered, in-no-box    the test of a claimed request, where it stops
@@ -9,7 +8,7 @@ use Prim.Native.Nat.{ℕ, zero, suc, _+_, _≤_}
 use mathlib.Core.Path.{_≡_, refl, ap, _∙_}
 use mathlib.Core.List.{List, [], _∷_, map}
 use mathlib.Core.Bool.{Bool, true, false, not, _&&_}
-use lib.ListN.{length, getD, set, length-map}
+use lib.ListN.{length, getD, set}
 use native.Mathlib.Numerals.{add-one}
 use native.Mathlib.Nat.{not-suc-le-zero}
 use native.Mathlib.Omega.{arith}
@@ -18,9 +17,6 @@ use Rattle.model.specs.declared.Core.{Core}
 use Rattle.model.specs.Records.{noCore}
 use Rattle.model.specs.Walks.{some}
 use Rattle.model.specs.Requests.{holds, boxed}
-
-pub unmapped : {A B : Type 0} (f : A → B) (l : List A) (n : ℕ) → length (map f l) ≡ n → length l ≡ n
-unmapped f l n e = rw length-map at e
 
 -- ---- looking for a box
 

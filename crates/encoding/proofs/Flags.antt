@@ -16,7 +16,7 @@ use lib.Dec.{leb}
 use Rattle.model.specs.Records.{maxSources, maxCores}
 use Rattle.model.specs.Walks.{every}
 use Rattle.model.specs.Bytes.{sourcesFrom, coresFrom, sourceSize, coreSize, stateSize, sourceFlags, coreFlags, isState}
-use Rattle.model.proofs.Bools.{and-in, clash, Flag, on, off, flag}
+use Rattle.model.proofs.Bools.{and-in, clash, refuted}
 use Rattle.model.proofs.Walks.{every-out}
 
 -- ---- one record
@@ -57,11 +57,7 @@ module _ {n : ℕ} {f : ℕ → Bool} {i : ℕ} (p : Passing n f i) where
   passing-all h = let e : i ≡ n = omega (arith, p .within) in rw e at (p .all)
 
 not-every : (n : ℕ) (f : ℕ → Bool) (i : ℕ) → i < n → f i ≡ false → every n f ≡ false
-not-every n f i h e = go (flag (every n f))
-  where
-    go : Flag (every n f) → every n f ≡ false
-    go (on p) = clash (every-out n f p i h) e
-    go (off p) = p
+not-every n f i h e = refuted (every n f) (λ p. clash (every-out n f p i h) e)
 
 -- ---- all records
 

@@ -3,13 +3,12 @@
 --   word-stores, source-written, core-written, answer-written    one record, from what each store and call leaves
 --   Written, written-none, source-more, core-more                how far a state is written
 --   all-written                                                  past the last source and the last core the bytes are the state's
---   unmapped                                                     the length of an array field
 use Prim.Native.Nat.{ℕ, _+_, _*_, _<_, _≤_}
 use mathlib.Core.Path.{_≡_, refl, sym, _∙_, ap}
-use mathlib.Core.List.{List, [], _∷_, _++_, map, append-nil, append-assoc}
+use mathlib.Core.List.{List, [], _∷_, _++_, append-nil, append-assoc}
 use native.Mathlib.Omega.{arith}
 use native.Mathlib.Numerals.{add-one, towards-suc}
-use lib.ListN.{length, set, take, drop, length-append, length-take, length-map}
+use lib.ListN.{length, set, take, drop, length-append, length-take}
 use lib.Seq.{sets, sets-eq, length-sets, take-at, take-all}
 use Rattle.model.specs.declared.Source.{Source}
 use Rattle.model.specs.declared.Core.{Core}
@@ -135,7 +134,3 @@ module _ (s : Controller) where
       let sources : take i (s .sources) ≡ s .sources = take-all i (s .sources) (omega (arith, p .sized .sources)) in
       let cores : take k (s .cores) ≡ s .cores = take-all k (s .cores) (omega (arith, p .sized .cores)) in
       sym (take-all (place i k) b whole) ∙ p .bytes ∙ rw (sources, cores)
-
--- what is known of an array field is the length of its elements' values
-pub unmapped : {A B : Type 0} (f : A → B) (l : List A) (n : ℕ) → length (map f l) ≡ n → length l ≡ n
-unmapped f l n e = sym (length-map l f) ∙ e

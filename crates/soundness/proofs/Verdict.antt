@@ -4,11 +4,11 @@
 --   sources-fit          in a well-formed state every source fits, and the spare ones are reset
 --   well-formed          a state that passed every test is well formed
 use Prim.Native.Nat.{ℕ, _<_, _≤_}
-use mathlib.Core.Path.{_≡_, sym, _∙_}
+use mathlib.Core.Path.{_≡_}
 use mathlib.Core.Bool.{Bool}
-use mathlib.Core.List.{List, map}
+use mathlib.Core.List.{List}
 use native.Mathlib.Omega.{arith}
-use lib.ListN.{length, getD, length-map}
+use lib.ListN.{length, getD}
 use Rattle.model.specs.declared.Core.{Core}
 use Rattle.model.specs.declared.Controller.{Controller}
 use Rattle.model.specs.Records.{maxSources, maxCores, noCore, resetCore, sourceAt, coreAt}
@@ -25,10 +25,6 @@ use Rattle.soundness.proofs.Test.{sources-apart}
 use Rattle.soundness.proofs.Fits.{fitsAt, AllFit}
 use Rattle.soundness.proofs.Cores.{CoreSound}
 use Rattle.soundness.proofs.Marks.{Boxes, Lowest}
-
--- an array's length, as its elements' values have it
-pub unmapped : {A B : Type 0} (f : A → B) (l : List A) (n : ℕ) → length (map f l) ≡ n → length l ≡ n
-unmapped f l n e = sym (length-map l f) ∙ e
 
 -- ---- the spare cores
 

@@ -6,7 +6,8 @@ use lib.ListN.{length}
 use borrow.Author.Needs.{needs}
 use Rattle.model.specs.Records.{maxCores, noCore}
 use Rattle.model.specs.Commands.{soiled}
-use Rattle.commands.proofs.CoreLoops.{unmapped, front, front-none, front-more, front-all}
+use Rattle.model.proofs.Arrays.{unmapped}
+use Rattle.commands.proofs.CoreLoops.{front, front-none, front-more, front-all}
 use Rattle.commands.proofs.all_soiled.Statement.{statement}
 use Rattle.commands.proofs.all_soiled.Tie as tie
 

@@ -15,6 +15,7 @@ use Rattle.model.specs.WellFormed.{wellFormed}
 use Rattle.model.specs.Statements.{InRange}
 use Rattle.model.proofs.Priorities.{top-lt}
 use Rattle.soundness.specs.Loops.{spareCore}
+use Rattle.model.proofs.Arrays.{unmapped}
 use Rattle.soundness.proofs.Exact.{flag-exact, refused, given, accepted, rejected, agree}
 use Rattle.soundness.proofs.Clauses.{sizes-exact}
 use Rattle.soundness.proofs.Test.{test-exact}
@@ -22,7 +23,7 @@ use Rattle.soundness.proofs.Turns.{since-begin, since-turn, since-end}
 use Rattle.soundness.proofs.Fits.{sources-fit-exact}
 use Rattle.soundness.proofs.Cores.{CoreNames, core-fits-exact, CoreSound, core-sound, idAt, backedAt, names-out, backed-out}
 use Rattle.soundness.proofs.Marks.{Boxes, boxes-begin, marked-twice, filled-turn, empty-turn, Lowest, lowest-begin, lowest-lower, lowest-same}
-use Rattle.soundness.proofs.Verdict.{unmapped, spare-cores-exact, covered-le, sources-fit, well-formed}
+use Rattle.soundness.proofs.Verdict.{spare-cores-exact, covered-le, sources-fit, well-formed}
 use Rattle.soundness.proofs.well_formed.Statement.{statement}
 use Rattle.soundness.proofs.well_formed.Tie as tie
 
