@@ -64,7 +64,7 @@ pub fn take(c: Core) -> Taken
     ensures { λ r. ⌜ r ≡ takenFrom c ⌝ }
 {
     let b = c.message;
-    let after = model::claimed_core(c);
+    let after = records::claimed_core(c);
     if !b.filled {
         return outcome(NOTHING_TO_CLAIM, SourceId(0), c);
     }
@@ -144,7 +144,7 @@ pub extern "C" fn psic_highest_in(list: &[Source]) -> Found
     let mut keys = [0; SOURCES];
     let mut i = 0;
     while i < n {
-        keys[i] = model::rank(list[i]);
+        keys[i] = records::rank(list[i]);
         i += 1;
     }
     search(&keys, len)

@@ -59,7 +59,7 @@ fn priorities(s: Controller) {
             if 0 < k {
                 text(b",");
             }
-            number(model::current_priority(s.cores[k]));
+            number(records::current_priority(s.cores[k]));
         }
         k += 1;
     }

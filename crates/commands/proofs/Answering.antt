@@ -1,7 +1,6 @@
 -- From the tests that the code makes to the answer of the definition. Assumes nothing.
 -- The code asks `!test(..)`: w is what the test answered, `not w` what the branch looked at.
 --   failing, passing        what the branch says of the definition's test
---   unnamed-zero, named-le  the test of an id
 --   makes-none, makes       the two answers of making
 --   Asks s o named number later    the checks of command o on a sound state: `named`, else the number, and then `later`
 --   answers                 a command that passes answers its settled effect
@@ -15,7 +14,7 @@ use mathlib.Core.Path.{_≡_, refl, sym, ap, _∙_}
 use mathlib.Core.Bool.{Bool, true, false, not}
 use native.Mathlib.Omega.{arith}
 use lib.Dec.{leb}
-use borrow.Author.Tests.{ltb-true, le-leb, not-true, not-false}
+use borrow.Author.Tests.{ltb-true, not-true, not-false}
 use Rattle.model.specs.declared.SourceId.{SourceId}
 use Rattle.model.specs.declared.CoreId.{CoreId}
 use Rattle.model.specs.declared.Controller.{Controller}
@@ -24,7 +23,7 @@ use Rattle.model.specs.declared.Command.{Command}
 use Rattle.model.specs.declared.Command.the-variants.{SetCorePriority, Claim}
 use Rattle.model.specs.Records.{maxSources, maxCores, coreAt, reset, answer}
 use Rattle.model.specs.Priorities.{topPriority}
-use Rattle.model.specs.WellFormed.{between, sizesInRange, wellFormed, WellFormed}
+use Rattle.model.specs.WellFormed.{sizesInRange, wellFormed, WellFormed}
 use Rattle.model.specs.Commands.{unless, namesSource, namesCore, effect, refusalOf, refusal, answeredId, settled, refused, execute, make}
 use Rattle.soundness.proofs.Exact.{between-exact}
 use Rattle.soundness.proofs.Test.{wellFormed-out}
@@ -38,12 +37,6 @@ module _ {w b : Bool} (is : w ≡ b) where
 
   pub passing : not w ≡ false → b ≡ true
   passing e = sym is ∙ not-false w e
-
-pub unnamed-zero : (n id : ℕ) → id ≡ 0 → false ≡ between 1 n id
-unnamed-zero n id e = rw e
-
-pub named-le : (n id : ℕ) → (id ≡ 0 → ⊥) → leb id n ≡ between 1 n id
-named-le n id h = rw (le-leb 1 id (omega arith))
 
 -- ---- making a controller
 

@@ -3,4 +3,3 @@ mod Answering
 mod Refusing
 mod SourceAnswers
 mod CoreAnswers
-mod CoreLoops

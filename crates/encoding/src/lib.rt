@@ -42,7 +42,7 @@ fn source_from(b: &[u8], i: usize) -> Source
     requires { ⌜ i + sourceSize ≤ length (now b) ⌝ }
     ensures { λ r. ⌜ r ≡ sourceFrom (now (b .entry)) i ⌝ }
 {
-    model::source_with(
+    records::source_with(
         word_at(b, i),
         b[i + 2] == 1,
         b[i + 3] == 1,
@@ -58,9 +58,9 @@ fn core_from(b: &[u8], i: usize) -> Core
     ensures { λ r. ⌜ r ≡ coreFrom (now (b .entry)) i ⌝ }
 {
     let id = SourceId(word_at(b, i + 4));
-    model::core_with(
+    records::core_with(
         word_at(b, i),
-        model::box_with(b[i + 2] == 1, b[i + 3] == 1, id, word_at(b, i + 6)),
+        records::box_with(b[i + 2] == 1, b[i + 3] == 1, id, word_at(b, i + 6)),
     )
 }
 
@@ -70,7 +70,7 @@ pub fn state_from(b: &[u8]) -> Controller
     requires { ⌜ length (now b) ≡ stateSize ⌝ }
     ensures { λ r. ⌜ r ≡ stateFrom (now (b .entry)) ⌝ }
 {
-    let mut s = model::reset(word_at(b, 0), word_at(b, 2));
+    let mut s = records::reset(word_at(b, 0), word_at(b, 2));
     let mut i = 0;
     while i < SOURCES {
         s.sources[i] = source_from(b, SOURCES_FROM + SOURCE_SIZE * i);

@@ -26,7 +26,7 @@ fn ranks(sources: [Source; SOURCES], n: usize) -> [u32; SOURCES]
     let mut keys = [0u32; SOURCES];
     let mut i = 0;
     while i < n {
-        keys[i] = model::rank(sources[i]);
+        keys[i] = records::rank(sources[i]);
         i += 1;
     }
     keys
@@ -39,7 +39,7 @@ fn current_priorities(cores: [Core; CORES], m: usize) -> [u16; CORES]
     let mut currents = [0u16; CORES];
     let mut k = 0;
     while k < m {
-        currents[k] = model::current_priority(cores[k]);
+        currents[k] = records::current_priority(cores[k]);
         k += 1;
     }
     currents
@@ -62,7 +62,7 @@ pub fn retract_all(s: Controller) -> Retracted
             let mut r = state.sources[at];
             r.delivered = false;
             state.sources[at] = r;
-            state.cores[k] = model::emptied(c);
+            state.cores[k] = records::emptied(c);
             cycles += 1;
         }
         k += 1;
@@ -97,13 +97,13 @@ pub fn deliver_all(s: Controller, id: SourceId, spent: u16) -> Answer
             let mut evicted = state.sources[old];
             evicted.delivered = false;
             state.sources[old] = evicted;
-            keys[old] = model::rank(evicted);
+            keys[old] = records::rank(evicted);
         }
         let mut r = state.sources[at];
         r.delivered = true;
         state.sources[at] = r;
         keys[at] = 0;
-        state.cores[k] = model::filled_with(c, SourceId(at as u16 + 1), r.priority);
+        state.cores[k] = records::filled_with(c, SourceId(at as u16 + 1), r.priority);
         currents[k] = r.priority;
         t += 1;
     }

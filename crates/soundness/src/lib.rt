@@ -147,7 +147,7 @@ fn sources_fit(sources: [Source; SOURCES], n: usize, top: u16, lowest: u16) -> b
                 return false;
             }
             if lowest < p {
-                if model::is_candidate(sources[i]) {
+                if records::is_candidate(sources[i]) {
                     return false;
                 }
             }
@@ -183,7 +183,7 @@ pub fn well_formed(s: Controller) -> bool
         return false;
     }
     let m = s.m as usize;
-    let top = model::top_priority(n) as u16;
+    let top = records::top_priority(n) as u16;
     let mut seen = [false; SOURCES];
     let mut lowest = 65535u16;
     let mut covered = 0u16;
@@ -206,7 +206,7 @@ pub fn well_formed(s: Controller) -> bool
                 covered = c.configured;
             }
         }
-        let p = model::current_priority(c);
+        let p = records::current_priority(c);
         if p < lowest {
             lowest = p;
         }

@@ -54,9 +54,9 @@ use Rattle.borrowed.specs.Keys.{readOf}
 use Rattle.borrowed.proofs.Filling.{Filled, Further, further-wf, zeros, zeros-are, none-filled}
 use Rattle.model.proofs.Source as So
 use Rattle.model.proofs.Source.Laws as So′
-use Rattle.model.proofs.rank.Symbol as rank-def
-use Rattle.model.proofs.rank.Symbol.{name as #model·rank}
-use Rattle.model.proofs.rank.Met as rank-thm
+use Rattle.records.proofs.rank.Symbol as rank-def
+use Rattle.records.proofs.rank.Symbol.{name as #records·rank}
+use Rattle.records.proofs.rank.Met as rank-thm
 use Rattle.borrowed.proofs.read_of as read-of
 use Rattle.borrowed.proofs.read_of.Symbol as read-def
 use Rattle.borrowed.proofs.read_of.Symbol.{name as #borrowed·read-of}
@@ -84,7 +84,7 @@ zero-vals = arrayVal (replicate 128 (vint w32 0)) ∷ []
 -- the callees, as a table of calls has them
 pub record Known {M : Type 1} (𝓤 : URA M) (H : Heap 𝓤) (A : Atoms 𝓤) (at-mem : Memory → SProp 𝓤) (run : Routine → Fun 𝓤) (𝓣 : Tables 𝓤 H) : Type 2 where
   pub reads : Triple 𝓤 (𝓣 .C #borrowed·read-of) (ReadOf 𝓤 H A at-mem run)
-  pub ranks : Triple 𝓤 (𝓣 .C #model·rank) (Rank 𝓤 H A at-mem run)
+  pub ranks : Triple 𝓤 (𝓣 .C #records·rank) (Rank 𝓤 H A at-mem run)
   pub searches : Triple 𝓤 (𝓣 .C #borrowed·search) (Search 𝓤 H A at-mem run)
 
 module _ {M : Type 1} (𝓤 : URA M) (H : Heap 𝓤) (A : Atoms 𝓤) (W : Given 𝓤 H A) (at-mem : Memory → SProp 𝓤) (run : Routine → Fun 𝓤) (κ : Lft) (q : Share) (s : RefT (List Source)) (𝓣 : Tables 𝓤 H) (known : Known 𝓤 H A at-mem run 𝓣) where
@@ -153,6 +153,6 @@ psic-highest-in-spec 𝓤 H 𝓜 𝓖 𝓡 =
     (tables 𝓤 H 𝓜 𝓡 code.env .C) (tables 𝓤 H 𝓜 𝓡 code.env .Λ) #borrowed·highest-in code.function (code.unfolded 𝓤 H 𝓜 𝓡)
     (highest-in-meets 𝓤 H (𝓖 .A) (givenOf 𝓤 H 𝓜 𝓖) (𝓜 .mem) (𝓡 .run) (tablesOf 𝓤 H 𝓜 (tables 𝓤 H 𝓜 𝓡 code.env)) record {
       reads = cited 𝓤 H (ReadOf 𝓤 H (𝓖 .A) (𝓜 .mem) (𝓡 .run)) 𝓜 𝓡 code.env #borrowed·read-of read-def.routine code.calls-borrowed·read-of (read-thm.met 𝓤 H 𝓜 𝓖 𝓡);
-      ranks = cited 𝓤 H (Rank 𝓤 H (𝓖 .A) (𝓜 .mem) (𝓡 .run)) 𝓜 𝓡 code.env #model·rank rank-def.routine code.calls-model·rank (rank-thm.met 𝓤 H 𝓜 𝓖 𝓡);
+      ranks = cited 𝓤 H (Rank 𝓤 H (𝓖 .A) (𝓜 .mem) (𝓡 .run)) 𝓜 𝓡 code.env #records·rank rank-def.routine code.calls-records·rank (rank-thm.met 𝓤 H 𝓜 𝓖 𝓡);
       searches = cited 𝓤 H (Search 𝓤 H (𝓖 .A) (𝓜 .mem) (𝓡 .run)) 𝓜 𝓡 code.env #borrowed·search search-def.routine code.calls-borrowed·search (search-thm.met 𝓤 H 𝓜 𝓖 𝓡);
     })

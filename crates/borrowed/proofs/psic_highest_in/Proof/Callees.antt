@@ -30,7 +30,7 @@ use Rattle.model.specs.declared.Found.{Found}
 use Rattle.model.specs.Arbitration.{rank as rankOf}
 use Rattle.borrowed.specs.Keys.{readOf, FoundByKeys}
 use Rattle.model.proofs.Source as So
-use Rattle.model.proofs.rank as rank
+use Rattle.records.proofs.rank as rank
 use Rattle.borrowed.proofs.read_of as read-of
 use Rattle.borrowed.proofs.search as searched
 

@@ -41,8 +41,8 @@ use Rattle.borrowed.specs.Keys.{readOf}
 use Rattle.borrowed.proofs.Filling.{Filled, Further, read-inside, one-more, nearer}
 use Rattle.model.proofs.Source as So
 use Rattle.model.proofs.Source.Laws as So′
-use Rattle.model.proofs.rank as rank
-use Rattle.model.proofs.rank.Symbol.{name as #model·rank}
+use Rattle.records.proofs.rank as rank
+use Rattle.records.proofs.rank.Symbol.{name as #records·rank}
 use Rattle.borrowed.proofs.psic_highest_in.Proof.Callees.{Rank, to-rank, goes-rank, rank-said}
 use Rattle.borrowed.proofs.psic_highest_in.Proof.Frame.{Blocks, At, Turns}
 
@@ -51,7 +51,7 @@ abbrev pub sources : Source → List Val
 sources = LL.vals So.the-type So′.the-laws
 
 module _ {M : Type 1} (𝓤 : URA M) (H : Heap 𝓤) (A : Atoms 𝓤) (W : Given 𝓤 H A) (at-mem : Memory → SProp 𝓤) (run : Routine → Fun 𝓤) (κ : Lft) (q : Share) (s : RefT (List Source)) (room : Room So.the-row (length (s .now)))
-    (𝓣 : Tables 𝓤 H) (known : Triple 𝓤 (𝓣 .C #model·rank) (Rank 𝓤 H A at-mem run)) (q′ : Share) (B : Blocks) (f : Filled (s .now)) (test : ltb (f .i) (readOf (length (s .now))) ≡ true) where
+    (𝓣 : Tables 𝓤 H) (known : Triple 𝓤 (𝓣 .C #records·rank) (Rank 𝓤 H A at-mem run)) (q′ : Share) (B : Blocks) (f : Filled (s .now)) (test : ltb (f .i) (readOf (length (s .now))) ≡ true) where
   abbrev l : List Source
   l = s .now
 

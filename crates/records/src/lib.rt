@@ -1,0 +1,207 @@
+// One record made, or read: what a command makes of a source or a core, and what is read off one.
+ghost use mathlib.Core.Path.{_≡_};
+ghost use Rattle.model.specs.Records.{sourceWith, withConfigured, withMask, withDelivered, opened as openedOf, ended as endedOf, boxWith, emptyBox, holding, coreWith, reset as resetOf};
+ghost use Rattle.model.specs.Priorities.{topPriority};
+ghost use Rattle.model.specs.Requests.{currentPriority, candidate};
+ghost use Rattle.model.specs.Arbitration.{rank as rankOf};
+ghost use Rattle.model.specs.Commands.{claimedCore, soiled as soiledCore};
+use model::CORES;
+use model::Controller;
+use model::Core;
+use model::MessageBox;
+use model::SOURCES;
+use model::Source;
+use model::SourceId;
+
+// ---- the records' values. Every literal of a state record in code stands here.
+
+pub fn source_with(
+    configured: u16,
+    masked: bool,
+    pending: bool,
+    delivered: bool,
+    priority: u16,
+) -> Source
+    ensures { λ r. ⌜ r ≡ sourceWith configured masked pending delivered priority ⌝ }
+{
+    Source {
+        configured,
+        masked,
+        pending,
+        delivered,
+        priority,
+    }
+}
+
+// The source with another priority for its next request.
+// Rules out: a pending request that takes it over (`request_follows_setting`); a mask that falls (`setting_unmasks`).
+pub fn with_configured(r: Source, p: u16) -> Source
+    ensures { λ s. ⌜ s ≡ withConfigured p r ⌝ }
+{
+    source_with(p, r.masked, r.pending, r.delivered, r.priority)
+}
+
+// The source masked, or not.
+// Rules out: a request that ends (`mask_ends_request`); a delivered one that waits again (`unmask_withdraws`).
+pub fn with_mask(r: Source, masked: bool) -> Source
+    ensures { λ s. ⌜ s ≡ withMask masked r ⌝ }
+{
+    source_with(r.configured, masked, r.pending, r.delivered, r.priority)
+}
+
+// The source whose request is delivered, or not.
+// Rules out: a request that ends (`redeliver_ends_request`); one that takes a new priority (`redeliver_at_configured`).
+pub fn with_delivered(r: Source, delivered: bool) -> Source
+    ensures { λ s. ⌜ s ≡ withDelivered delivered r ⌝ }
+{
+    source_with(r.configured, r.masked, r.pending, delivered, r.priority)
+}
+
+// The source with a new request, at its configured priority.
+// Rules out: no request (`trigger_opens_nothing`); one at an older priority (`trigger_keeps_old_priority`).
+pub fn opened(r: Source) -> Source
+    ensures { λ s. ⌜ s ≡ openedOf r ⌝ }
+{
+    source_with(r.configured, r.masked, true, false, r.configured)
+}
+
+// The source with no request any more.
+// Rules out: the request's priority left behind (`complete_keeps_priority`); the request itself (`complete_keeps_pending`).
+pub fn ended(r: Source) -> Source
+    ensures { λ s. ⌜ s ≡ endedOf r ⌝ }
+{
+    source_with(r.configured, r.masked, false, false, 0)
+}
+
+pub fn box_with(filled: bool, dirty: bool, source: SourceId, priority: u16) -> MessageBox
+    ensures { λ r. ⌜ r ≡ boxWith filled dirty source priority ⌝ }
+{
+    MessageBox {
+        filled,
+        dirty,
+        source,
+        priority,
+    }
+}
+
+pub fn core_with(configured: u16, message: MessageBox) -> Core
+    ensures { λ r. ⌜ r ≡ coreWith configured message ⌝ }
+{
+    Core {
+        configured,
+        message,
+    }
+}
+
+pub fn empty_box() -> MessageBox
+    ensures { λ r. ⌜ r ≡ emptyBox ⌝ }
+{
+    box_with(false, false, SourceId(0), 0)
+}
+
+// The core with its box emptied.
+// Rules out: a core that falls (`retraction_lowers_core`) or rises with it (`retraction_raises_core`).
+pub fn emptied(c: Core) -> Core
+    ensures { λ r. ⌜ r ≡ coreWith (c .configured) emptyBox ⌝ }
+{
+    core_with(c.configured, empty_box())
+}
+
+// The core with a request in its box.
+// Rules out: a dirty box (`delivered_dirty`); a core whose own priority follows (`delivery_sets_core`).
+pub fn filled_with(c: Core, id: SourceId, p: u16) -> Core
+    ensures { λ r. ⌜ r ≡ coreWith (c .configured) (holding id p) ⌝ }
+{
+    core_with(c.configured, box_with(true, false, id, p))
+}
+
+// The core raised to its box's priority, and the box emptied.
+// Rules out: a core that stays (`claim_leaves_core`); the id taken for the priority (`claim_raises_to_id`).
+pub fn claimed_core(c: Core) -> Core
+    ensures { λ r. ⌜ r ≡ claimedCore c ⌝ }
+{
+    core_with(c.message.priority, empty_box())
+}
+
+// The core with its box made dirty, if it is filled.
+// Rules out: a core that rises to its box (`soiling_raises_core`); a box that falls to its core (`soiling_lowers_box`).
+pub fn soiled(c: Core) -> Core
+    ensures { λ r. ⌜ r ≡ soiledCore c ⌝ }
+{
+    let source = c.message.source;
+    core_with(
+        c.configured,
+        box_with(
+            c.message.filled,
+            c.message.filled,
+            source,
+            c.message.priority,
+        ),
+    )
+}
+
+// Document 01: "fresh". Any sizes; who asks for a controller checks them first.
+// Rules out: a source of priority 0 (`fresh_priority_zero`); an unmasked one (`fresh_unmasked`).
+pub fn reset(n: u16, m: u16) -> Controller
+    ensures { λ r. ⌜ r ≡ resetOf n m ⌝ }
+{
+    let source = source_with(1, true, false, false, 0);
+    let core = core_with(0, empty_box());
+    Controller {
+        n,
+        m,
+        sources: [source; SOURCES],
+        cores: [core; CORES],
+    }
+}
+
+// ---- what is read off one record
+
+// The top priority, 2^(floor(log2 n) + 2) - 1, from the leading zeros of n.
+// Rules out: another value without sources (`no_sources_top_one`).
+pub fn top_priority(n: u16) -> u32
+    ensures { λ r. ⌜ r ≡ topPriority n ⌝ }
+{
+    if n == 0 {
+        return 3;
+    }
+    let width = 17 - u16::leading_zeros(n);
+    (1u32 << width) - 1
+}
+
+// The box's priority if the box is filled, else the configured one.
+// Rules out: a box that counts only while it is dirty (`current_while_dirty`).
+pub fn current_priority(c: Core) -> u16
+    ensures { λ r. ⌜ r ≡ currentPriority c ⌝ }
+{
+    if c.message.filled {
+        c.message.priority
+    } else {
+        c.configured
+    }
+}
+
+// Pending, not delivered, not masked.
+// Rules out: a delivered request as a candidate (`delivered_is_candidate`); a masked one (`masked_is_candidate`).
+pub fn is_candidate(r: Source) -> bool
+    ensures { λ b. ⌜ b ≡ candidate r ⌝ }
+{
+    if r.delivered {
+        return false;
+    }
+    if r.masked {
+        return false;
+    }
+    r.pending
+}
+
+// What the comparator compares: 0 for no candidate, else one more than the request's priority.
+// Rules out: the configured priority instead (`rank_by_configured`); a candidate of priority 0 lost (`priority_zero_unranked`).
+pub fn rank(r: Source) -> u32
+    ensures { λ k. ⌜ k ≡ rankOf r ⌝ }
+{
+    if is_candidate(r) {
+        return r.priority as u32 + 1;
+    }
+    0
+}

@@ -1,0 +1,2 @@
+-- Laws for the loops over the cores.
+mod CoreLoops

@@ -1,0 +1,12 @@
+-- `steps::refused` meets its contract, which is the answer that it builds. Assumes nothing.
+use mathlib.Core.Path.{refl}
+use Rattle.model.specs.Commands.{refused}
+use Rattle.steps.proofs.refused.Statement.{statement}
+use Rattle.steps.proofs.refused.Tie as tie
+
+returns : tie.Need-returns
+unfolding refused
+returns c = refl
+
+pub refused-spec : {M : Type 1} → statement M
+refused-spec = tie.close (tie.spec returns)
