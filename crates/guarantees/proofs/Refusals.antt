@@ -1,5 +1,5 @@
 -- Each number for no is given exactly when its row of the table says (`RefusalsExact`), and a refused command changes nothing
--- (`RefusedUnchanged`). The number answered is the refusal's (`RefusalAnswered`).
+-- (`RefusedUnchanged`). The number answered is the refusal's (`RefusalAnswered`), and the rows fit no other (`number-unique`).
 -- The checks of every command are one chain over the rows, in the order 1, 3, 4, 5, 6, 7, 8 (`refusal-chain`); what the chain's
 -- number says of the rows, and back, is a fact about seven flags (`verdict`, `number`). Assumes nothing.
 use Prim.Native.Nat.{ℕ, zero, suc, _≤_}
@@ -175,12 +175,26 @@ module _ (s : Controller) (c : Command) where
         at-most-eight = rw (refusal-chain s c) (search (cond-le, lit≤, tt) depth 10);
       }
 
+  -- the rows leave no choice
+  fixed : {k : ℕ} (number : ℕ) → Refusals number s c → Says k → number ≡ k
+  fixed number r (passed h) = r .zero .1 h
+  fixed number r (at-state h) = r .one .1 h
+  fixed number r (at-core h) = r .three .1 h
+  fixed number r (at-source h) = r .four .1 h
+  fixed number r (at-priority h) = r .five .1 h
+  fixed number r (at-pending h) = r .six .1 h
+  fixed number r (at-empty h) = r .seven .1 h
+  fixed number r (at-unclaimed h) = r .eight .1 h
+
 pub refusal-answered : RefusalAnswered
 unfolding refused settled
 refusal-answered s c = by-answer s c (λ a. a .number ≡ refusal s c) (λ e. sym e) (λ h. refl)
 
 pub refusals-exact : RefusalsExact execute
 refusals-exact s c = rw (refusal-answered s c) (refusals s c)
+
+pub number-unique : (s : Controller) (c : Command) (number : ℕ) → Refusals number s c → number ≡ (execute s c) .number
+number-unique s c number r = fixed s c number r (says s c refl) ∙ sym (refusal-answered s c)
 
 pub refused-unchanged : RefusedUnchanged execute
 unfolding refused settled

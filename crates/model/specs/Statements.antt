@@ -69,7 +69,8 @@ pub record AtRest (s : Controller) : Type 0 where
   pub clean : (k : ℕ) → k < s .m → (coreAt s k) .message .dirty ≡ false
   pub none-above : (i k : ℕ) → i < s .n → k < s .m → candidate (sourceAt s i) ≡ true → (sourceAt s i) .priority ≤ currentPriority (coreAt s k)
 
--- The answer a to a command whose effect is e, held against f cycles of settling: a has the state and the count that they give.
+-- The answer a to a command whose effect is e, on m cores, held against f cycles of settling: it has the state and the count that they
+-- give, that state is at rest, and at most m of the cycles are retractions and at most m deliveries.
 pub record EndedBy (f m : ℕ) (e : Controller) (a : Answer) : Type 0 where
   pub same-state : settle f e ≡ a .state
   pub same-count : cyclesOf f e ≡ a .cycles
@@ -77,7 +78,7 @@ pub record EndedBy (f m : ℕ) (e : Controller) (a : Answer) : Type 0 where
   pub retractions-le : countOf isRetraction f e ≤ m
   pub deliveries-le : countOf isDelivery f e ≤ m
 
--- The bound of 2m cycles cuts nothing short: every larger one gives the same answer, with at most m retractions and m deliveries.
+-- The bound of 2m cycles cuts nothing short: an accepted command answers what any number of cycles from 2m on gives.
 abbrev pub NothingCutShort : Type 0
 NothingCutShort =
     (s : Controller) (c : Command) → refusal s c ≡ 0 → (f : ℕ) → 2 * s .m ≤ f → EndedBy f (s .m) (effect s c) (execute s c)
