@@ -3,9 +3,10 @@
 -- T2 is trigger 4 at the table's start, T3 then trigger 3.
 use Prim.Native.Nat.{ℕ}
 use mathlib.Core.Path.{_≡_, refl, ap}
+use mathlib.Core.Logic.{_≢_}
 use mathlib.Core.Bool.{false}
 use lib.Dec.{eqb}
-use borrow.Author.Tests.{eqb-false}
+use borrow.Author.Tests.{eqb-false, ne-eqb}
 use Rattle.model.specs.declared.Controller.{Controller}
 use Rattle.model.specs.declared.Answer.{Answer}
 use Rattle.model.specs.declared.Command.{Command}
@@ -45,9 +46,9 @@ unfolding computed
 alwaysTwoM-fails-two = fails-two alwaysTwoM (λ a. a .cycles) start (Trigger (sourceId 4)) refl
 
 -- T2: the number is not 0
-pub refuseEverything-fails-two : (number : ℕ) → eqb number 0 ≡ false → ¬ DemandTwo (refuseEverything number)
+pub refuseEverything-fails-two : (number : ℕ) → number ≢ 0 → ¬ DemandTwo (refuseEverything number)
 unfolding computed
-refuseEverything-fails-two number other = fails-two (refuseEverything number) (λ a. a .number) start (Trigger (sourceId 4)) other
+refuseEverything-fails-two number other = fails-two (refuseEverything number) (λ a. a .number) start (Trigger (sourceId 4)) (ne-eqb number 0 other)
 
 -- T3: core 1 stays at 0, where 3 is due
 pub flagsOnly-fails-two : ¬ DemandTwo flagsOnly

@@ -3,9 +3,10 @@
 --   fails-unchanged    a refusal's answer that differs, in one number, from the state given with id 0 and 0 cycles
 use Prim.Native.Nat.{ℕ}
 use mathlib.Core.Path.{_≡_, refl, ap}
+use mathlib.Core.Logic.{_≢_}
 use mathlib.Core.Bool.{false}
 use lib.Dec.{eqb}
-use borrow.Author.Tests.{eqb-false}
+use borrow.Author.Tests.{eqb-false, ne-eqb}
 use Rattle.model.specs.declared.Controller.{Controller}
 use Rattle.model.specs.declared.Answer.{Answer}
 use Rattle.model.specs.declared.Command.{Command}
@@ -30,9 +31,9 @@ module _ (x : Behaviour) (s : Controller) (c : Command) where
   fails-unchanged read refused differ h = eqb-false _ _ differ (ap read (h s c (eqb-false _ _ refused)))
 
 -- T2 is accepted
-pub refuseEverything-fails-refusals : (number : ℕ) → eqb number 0 ≡ false → ¬ RefusalsExact (refuseEverything number)
+pub refuseEverything-fails-refusals : (number : ℕ) → number ≢ 0 → ¬ RefusalsExact (refuseEverything number)
 unfolding computed
-refuseEverything-fails-refusals number other = fails-refusals (refuseEverything number) start (Trigger (sourceId 4)) other
+refuseEverything-fails-refusals number other = fails-refusals (refuseEverything number) start (Trigger (sourceId 4)) (ne-eqb number 0 other)
 
 -- core 2 of two
 pub coreAsSource-fails-refusals : ¬ RefusalsExact coreAsSource
