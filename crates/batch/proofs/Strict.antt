@@ -7,11 +7,11 @@ use Rattle.model.specs.Ledger.{opening, ledger, entries}
 use Rattle.model.specs.Encoding.{decode}
 use Rattle.model.specs.Statements.{PriorityStrict}
 use Rattle.soundness.proofs.Reset.{makes-exactly}
-use Rattle.ledger.proofs.Theorem.{demand-three}
+use Rattle.ledger.proofs.Theorem.{made-strict}
 use Rattle.batch.specs.Statements.{BatchStrict}
 
 pub batch-strict : BatchStrict
 batch-strict n m ws h =
     subst (λ (a : Answer). PriorityStrict n m (ledger opening (entries (a .state) (decode ws))) (run (a .state) (decode ws)))
     (makes-exactly n m .0 h)
-    (demand-three .0 n m (decode ws) h)
+    (made-strict n m (decode ws) h)

@@ -1,7 +1,7 @@
 -- Demand 3 over every list of commands (`DemandThree`): the ledger matches the state from the reset on, each command keeps the
 -- match and soundness, and a sound state that the ledger matches is priority-strict. Assumes nothing.
 use Prim.Native.Nat.{ℕ, _<_}
-use mathlib.Core.Path.{_≡_, refl, sym, subst}
+use mathlib.Core.Path.{_≡_, refl, sym, ap, subst}
 use mathlib.Core.List.{List, [], _∷_}
 use native.Mathlib.Omega.{arith}
 use Rattle.model.specs.declared.Controller.{Controller}
@@ -9,11 +9,12 @@ use Rattle.model.specs.declared.Answer.{Answer}
 use Rattle.model.specs.declared.Command.{Command}
 use Rattle.model.specs.Records.{resetSource, sourceAt, reset}
 use Rattle.model.specs.WellFormed.{WellFormed}
-use Rattle.model.specs.Commands.{execute, run}
-use Rattle.model.specs.Ledger.{Ledger, opening, ledger, entryOf, entries, post}
-use Rattle.model.specs.Statements.{InRange, PriorityStrict, DemandThree}
+use Rattle.model.specs.Commands.{execute, make, run}
+use Rattle.model.specs.Ledger.{Ledger, Entry, opening, ledger, entryOf, entries, post}
+use Rattle.model.specs.Behaviours.{runBy, entriesBy}
+use Rattle.model.specs.Statements.{InRange, PriorityStrict, EveryListStrict, DemandThree}
 use Rattle.soundness.proofs.Reset.{core-reset, source-reset, reset-wellFormed, makes-exactly}
-use Rattle.guarantees.proofs.Kept.{wellFormed-kept, cycles-bounded}
+use Rattle.guarantees.proofs.Kept.{wellFormed-kept, nothing-cut-short, cycles-bounded}
 use Rattle.ledger.specs.Matches.{Matches}
 use Rattle.ledger.proofs.Matching.{match-kept}
 use Rattle.ledger.proofs.Strict.{matched-strict}
@@ -47,6 +48,24 @@ reset-strict n m cs R =
     let (W, M) = run-matches n m opening (reset n m) cs (reset-wellFormed n m R) (opening-matches n m R) in
     matched-strict n m (ledger opening (entries (reset n m) cs)) (run (reset n m) cs) W M
 
+pub made-strict : (n m : ℕ) (cs : List Command) → InRange n m → StrictFrom n m cs ((make n m) .state)
+made-strict n m cs R = subst (λ (a : Answer). StrictFrom n m cs (a .state)) (sym (makes-exactly n m .0 R)) (reset-strict n m cs R)
+
+-- ---- of `execute` as one behaviour among others
+
+runBy-execute : (s : Controller) (cs : List Command) → runBy execute s cs ≡ run s cs
+unfolding run runBy
+runBy-execute s [] = refl
+runBy-execute s (c ∷ cs) = runBy-execute ((execute s c) .state) cs
+
+entriesBy-execute : (s : Controller) (cs : List Command) → entriesBy execute s cs ≡ entries s cs
+unfolding entries entriesBy
+entriesBy-execute s [] = refl
+entriesBy-execute s (c ∷ cs) = ap (λ (es : List Entry). entryOf s c ∷ es) (entriesBy-execute ((execute s c) .state) cs)
+
+every-list-strict : EveryListStrict execute
+every-list-strict n m cs R = rw (entriesBy-execute, runBy-execute) (made-strict n m cs R)
+
 pub demand-three : DemandThree
 demand-three =
-    (λ n m cs R. subst (λ (a : Answer). StrictFrom n m cs (a .state)) (sym (makes-exactly n m .0 R)) (reset-strict n m cs R), cycles-bounded)
+    record { every-list-strict = every-list-strict; cycles-bounded = cycles-bounded; nothing-cut-short = nothing-cut-short }

@@ -1,7 +1,7 @@
 -- The ledger of a list of commands, and what is read off it. Definitions only. Assumes nothing.
 -- Source: document 01, "The list and the book". Document 01's word is "book".
 --   post b e                 the ledger after one entry: a command with the number and id that it answered, nothing else
---   competes n b s id        the request of id 1 to n is open, and lies in a box of s or waits unmasked
+--   competes n m b s id      the request of id 1 to n is open, and lies in a box of cores 0 to m - 1 of s or waits unmasked
 --   collection n m b s       every core's configured priority, and the priority of every request that competes
 --   Placement n m b s P      P gives each core k below m a request P k, or none (0)
 --   sortDown l               l sorted from the top, repeats kept

@@ -8,6 +8,7 @@
 --   Settling      one retraction, one delivery, and the run of cycles with its count
 --   Commands      effects, refusals, answers, making, and the run of a list of commands
 --   Ledger        the ledger kept from commands and their answers; collection, placement, sorting
+--   Behaviours    any answer to commands in the place of `execute`, and what a list of commands gives by it
 --   Statements    what is claimed of all this, as propositions; their proofs are in the crates above this one
 --   Cases         the worked cases of document 01's table of runs
 --   Encoding      a list of commands as numbers
@@ -22,6 +23,7 @@ pub mod WellFormed
 pub mod Settling
 pub mod Commands
 pub mod Ledger
+pub mod Behaviours
 pub mod Statements
 pub mod Cases
 pub mod Encoding

@@ -1,5 +1,5 @@
 -- A run of cycles cut in two: the state after a + b cycles is that after b more cycles, and what was counted adds up. Assumes nothing.
---   settle-add, cyclesOf-add    the two laws
+--   settle-add, countOf-add, cyclesOf-add    these laws
 --   Ran s state t               state is s after t cycles, none of them at rest: what both loops of settling keep
 --   ran-none, ran-more          no cycle, and one cycle more
 use Prim.Native.Nat.{ℕ, zero, suc, _+_}
@@ -16,7 +16,7 @@ unfolding settle
 settle-add zero b s = rw zero-add
 settle-add (suc a) b s = rw suc-add (settle-add a b (cycle s))
 
-countOf-add : (kind : Cycle → ℕ) (a b : ℕ) (s : Controller) → countOf kind (a + b) s ≡ countOf kind a s + countOf kind b (settle a s)
+pub countOf-add : (kind : Cycle → ℕ) (a b : ℕ) (s : Controller) → countOf kind (a + b) s ≡ countOf kind a s + countOf kind b (settle a s)
 unfolding settle countOf
 countOf-add kind zero b s = rw (zero-add b) (omega arith)
 countOf-add kind (suc a) b s = rw suc-add (omega (arith, countOf-add kind a b (cycle s)))
