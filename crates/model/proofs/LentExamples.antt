@@ -1,7 +1,6 @@
 -- The worked cases of the calls on lent records hold of the definitions, each list by one computation. Assumes nothing.
 use mathlib.Core.Path.{refl}
 use lib.Count.{leadingZeros}
-use lib.ListN.{length, replicate}
 use Rattle.model.specs.Priorities.{floorLog2, priorityWidth, topPriority}
 use Rattle.model.specs.Walks.{tree}
 use Rattle.model.specs.Arbitration.{highest, highestId}
