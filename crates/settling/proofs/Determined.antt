@@ -8,7 +8,7 @@ use Rattle.model.specs.declared.Controller.{Controller}
 use Rattle.model.specs.Settling.{settle, isRetraction, countOf, cyclesOf}
 use Rattle.settling.specs.declared.Retracted.{Retracted}
 use Rattle.settling.specs.Runs.{AfterRetractions, RetractionsDetermined}
-use Rattle.settling.proofs.Forward.{settle-add, countOf-add, cyclesOf-add, all-retracted}
+use Rattle.settling.proofs.Forward.{settle-add, countOf-add, cyclesOf-add, cyclesOf-le}
 use Rattle.settling.proofs.Deliveries.{deliveries-end}
 
 module _ {s : Controller} {r : Retracted} (a : AfterRetractions s r) where
@@ -16,7 +16,8 @@ module _ {s : Controller} {r : Retracted} (a : AfterRetractions s r) where
   after-settles f = rw (a .state-is) (settle-add (r .cycles) f s)
 
   pub after-counts : (f : ℕ) → cyclesOf (r .cycles + f) s ≡ r .cycles + cyclesOf f (r .state)
-  after-counts f = rw (a .state-is) (omega (arith, cyclesOf-add (r .cycles) f s, all-retracted (r .cycles) s (a .each-retracts)))
+  unfolding cyclesOf
+  after-counts f = rw (a .state-is) (omega (arith, cyclesOf-add (r .cycles) f s, a .each-retracts, cyclesOf-le (r .cycles) s))
 
   none-follows : (f : ℕ) → s .m ≤ f → countOf isRetraction f (settle (r .cycles) s) ≡ 0
   none-follows f h =

@@ -1,6 +1,6 @@
 -- A run of cycles cut in two: the state after a + b cycles is that after b more cycles, and what was counted adds up. Assumes nothing.
 --   settle-add, countOf-add, cyclesOf-add    the laws
---   all-retracted, all-delivered             where each cycle is of one kind, nothing else is counted
+--   cyclesOf-le                              a cycle counts at most once, so where each is of one kind nothing else is counted
 --   Ran kind s state t                       state is s after t cycles, each of that kind: what both loops of settling keep
 --   ran-none, ran-more                       no cycle, and one cycle more
 use Prim.Native.Nat.{ℕ, zero, suc, _+_, _≤_}
@@ -34,18 +34,10 @@ one-kind Rest = omega arith
 one-kind (Retract k) = omega arith
 one-kind (Deliver id k) = omega arith
 
-cyclesOf-le : (t : ℕ) (s : Controller) → cyclesOf t s ≤ t
+pub cyclesOf-le : (t : ℕ) (s : Controller) → cyclesOf t s ≤ t
 unfolding countOf cyclesOf
 cyclesOf-le zero s = omega arith
 cyclesOf-le (suc t) s = omega (arith, one-kind (next s), cyclesOf-le t (cycle s))
-
-pub all-retracted : (t : ℕ) (s : Controller) → countOf isRetraction t s ≡ t → cyclesOf t s ≡ t
-unfolding cyclesOf
-all-retracted t s e = omega (arith, cyclesOf-le t s)
-
-pub all-delivered : (t : ℕ) (s : Controller) → countOf isDelivery t s ≡ t → cyclesOf t s ≡ t
-unfolding cyclesOf
-all-delivered t s e = omega (arith, cyclesOf-le t s)
 
 -- ---- a run of cycles of one kind
 
