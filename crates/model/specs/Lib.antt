@@ -13,6 +13,7 @@
 --   Cases         the worked cases of document 01's table of runs
 --   Encoding      a list of commands as numbers
 --   Borrowed      the two calls on records that the host lends
+--   LentCases     worked cases of these two calls
 --   Bytes         a state, commands and answers as bytes
 pub mod Records
 pub mod Priorities
@@ -28,4 +29,5 @@ pub mod Statements
 pub mod Cases
 pub mod Encoding
 pub mod Borrowed
+pub mod LentCases
 pub mod Bytes
