@@ -20,7 +20,7 @@ use Rattle.model.specs.Ledger.{gather}
 use Rattle.model.specs.Cases.{numbered, start, setUp, answersAs, passes, allPass, marked, further}
 
 -- To open this name is to open every definition that a run computes with.
-computed : Controller → List Command → Controller
+unfoldable pub computed : Controller → List Command → Controller
 unfolding leadingZeros floorLog2 priorityWidth topPriority every some walk tree boxed highest least leastPriority sizesInRange listsWhole sourceInRange isEmptyBox coreInRange isResetSource isResetCore backedBy sourcesInRange coresInRange sparesReset boxesBacked boxesDistinct boxesClean candidatesSettled coveredSettled wellFormed retract deliver firstDirty arbitrate next cycle settle countOf cyclesOf effect refusalOf refusal answeredId settled refused execute run gather numbered start answersAs passes allPass
 computed = run
 

@@ -10,6 +10,7 @@
 --   Ledger        the ledger kept from commands and their answers; collection, placement, sorting
 --   Statements    what is claimed of all this, as propositions; their proofs are in the crates above this one
 --   Cases         the worked cases of document 01's table of runs
+--   StateCases    worked states: fresh, broken beside sound, and with dirty boxes
 --   Encoding      a list of commands as numbers
 --   Borrowed      the two calls on records that the host lends
 --   Bytes         a state, commands and answers as bytes
@@ -24,6 +25,7 @@ pub mod Commands
 pub mod Ledger
 pub mod Statements
 pub mod Cases
+pub mod StateCases
 pub mod Encoding
 pub mod Borrowed
 pub mod Bytes
