@@ -9,3 +9,4 @@ pub mod Priorities
 pub mod Candidates
 pub mod Examples
 pub mod StateExamples
+pub mod LedgerExamples

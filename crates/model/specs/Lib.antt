@@ -11,6 +11,7 @@
 --   Statements    what is claimed of all this, as propositions; their proofs are in the crates above this one
 --   Cases         the worked cases of document 01's table of runs
 --   StateCases    worked states: fresh, broken beside sound, and with dirty boxes
+--   LedgerCases   worked pages of the ledger, a collection, placements
 --   Encoding      a list of commands as numbers
 --   Borrowed      the two calls on records that the host lends
 --   Bytes         a state, commands and answers as bytes
@@ -26,6 +27,7 @@ pub mod Ledger
 pub mod Statements
 pub mod Cases
 pub mod StateCases
+pub mod LedgerCases
 pub mod Encoding
 pub mod Borrowed
 pub mod Bytes
