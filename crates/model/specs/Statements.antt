@@ -225,7 +225,7 @@ pub record RowMet (s : Controller) (c : Command) : Type 0 where
 abbrev pub RowsMet : Type 0
 RowsMet = (s : Controller) (c : Command) → refusal s c ≡ 0 → RowMet s c
 
--- In every state, and however many cycles.
+-- Settling leaves all else alone in every state, however many cycles it takes.
 abbrev pub SettlingLeavesBare : Type 0
 SettlingLeavesBare = (f : ℕ) (s : Controller) → bare (settle f s) ≡ bare s
 
