@@ -9,3 +9,6 @@ pub mod AtRest
 pub mod Kept
 pub mod Refusals
 pub mod Changes
+pub mod Bare
+pub mod Rows
+pub mod Ids

@@ -9,3 +9,5 @@ pub mod Priorities
 pub mod Candidates
 pub mod Examples
 pub mod LentExamples
+pub mod StateExamples
+pub mod LedgerExamples

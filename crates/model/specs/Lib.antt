@@ -11,6 +11,8 @@
 --   Behaviours    any answer to commands in the place of `execute`, and what a list of commands gives by it
 --   Statements    what is claimed of all this, as propositions; their proofs are in the crates above this one
 --   Cases         the worked cases of document 01's table of runs
+--   StateCases    worked states: fresh, broken beside sound, and with dirty boxes
+--   LedgerCases   worked pages of the ledger, a collection, placements
 --   Encoding      a list of commands as numbers
 --   Borrowed      the two calls on records that the host lends
 --   LentCases     worked cases of these two calls
@@ -27,6 +29,8 @@ pub mod Ledger
 pub mod Behaviours
 pub mod Statements
 pub mod Cases
+pub mod StateCases
+pub mod LedgerCases
 pub mod Encoding
 pub mod Borrowed
 pub mod LentCases

@@ -9,13 +9,14 @@ use mathlib.Core.Bool.{Bool, true, false, not, _||_, cond}
 use lib.ListN.{getD, take}
 use lib.Dec.{ltb, leb, eqb}
 use Rattle.model.specs.declared.Source.{Source}
+use Rattle.model.specs.declared.CoreId.{CoreId}
 use Rattle.model.specs.declared.Core.{Core}
 use Rattle.model.specs.declared.Controller.{Controller}
 use Rattle.model.specs.declared.Answer.{Answer}
 use Rattle.model.specs.declared.Cycle.the-variants.{Rest}
 use Rattle.model.specs.declared.Command.{Command}
 use Rattle.model.specs.declared.Command.the-variants.{SetSourcePriority, Mask, Unmask, SetCorePriority, Trigger, Claim, Redeliver, Complete}
-use Rattle.model.specs.Records.{maxSources, maxCores, noSource, indexOf, sourceAt, coreAt, reset, answer}
+use Rattle.model.specs.Records.{maxSources, maxCores, noSource, sourceId, indexOf, sourceWith, boxWith, coreWith, sourceAt, coreAt, bare, reset, answer}
 use Rattle.model.specs.Priorities.{floorLog2, topPriority}
 use Rattle.model.specs.Walks.{comparisons}
 use Rattle.model.specs.Requests.{currentPriority, candidate, claimed, Owner, Owns}
@@ -163,6 +164,85 @@ abbrev pub ConfiguredChanges : Type 0
 ConfiguredChanges =
     (s : Controller) (c : Command) (k : ℕ) →
     (coreAt ((execute s c) .state) k) .configured ≡ cond (eqb (refusal s c) 0) (configuredAfter s c k) ((coreAt s k) .configured)
+
+-- ---- the rows of "Eight commands", field by field
+
+-- A field keeps its value or gets another.
+pub data Change (A : Type 0) : Type 0 where
+  keep : Change A
+  becomes : A → Change A
+
+abbrev pub changed : {A : Type 0} → Change A → A → A
+changed keep old = old
+changed (becomes value) old = value
+
+-- The columns of a source: configured priority, mask, pending, delivered, and the request's priority.
+abbrev pub sourceBy : Change ℕ → Change Bool → Change Bool → Change Bool → Change ℕ → Source → Source
+sourceBy configured masked pending delivered priority r =
+    sourceWith
+    (changed configured (r .configured))
+    (changed masked (r .masked))
+    (changed pending (r .pending))
+    (changed delivered (r .delivered))
+    (changed priority (r .priority))
+
+-- The columns of a core: configured priority; of its box: filled, dirty, id, and priority.
+abbrev pub coreBy : Change ℕ → Change Bool → Change Bool → Change ℕ → Change ℕ → Core → Core
+coreBy configured filled dirty id priority c =
+    coreWith (changed configured (c .configured))
+    (boxWith
+    (changed filled (c .message .filled))
+    (changed dirty (c .message .dirty))
+    (sourceId (changed id (c .message .source .0)))
+    (changed priority (c .message .priority)))
+
+-- Source id's record r after a command and before settling.
+abbrev pub sourceAfter : Command → ℕ → Source → Source
+sourceAfter (SetSourcePriority x p) id r = cond (eqb (x .0) id) (sourceBy (becomes p) keep keep keep keep r) r
+sourceAfter (Mask x) id r = cond (eqb (x .0) id) (sourceBy keep (becomes true) keep keep keep r) r
+sourceAfter (Unmask x) id r = cond (eqb (x .0) id) (sourceBy keep (becomes false) keep keep keep r) r
+sourceAfter (SetCorePriority j p) id r = r
+sourceAfter (Trigger x) id r =
+    cond (eqb (x .0) id) (sourceBy keep keep (becomes true) (becomes false) (becomes (r .configured)) r) r
+sourceAfter (Claim j) id r = r
+sourceAfter (Redeliver x) id r = cond (eqb (x .0) id) (sourceBy keep keep keep (becomes false) keep r) r
+sourceAfter (Complete x) id r =
+    cond (eqb (x .0) id) (sourceBy keep keep (becomes false) (becomes false) (becomes 0) r) r
+
+-- Core k's record c; set core priority makes every filled box dirty.
+abbrev pub coreAfter : Command → ℕ → Core → Core
+coreAfter (SetSourcePriority x p) k c = c
+coreAfter (Mask x) k c = c
+coreAfter (Unmask x) k c = c
+coreAfter (SetCorePriority j p) k c =
+    coreBy (cond (eqb (j .0) k) (becomes p) keep) keep (cond (c .message .filled) (becomes true) keep) keep keep c
+coreAfter (Trigger x) k c = c
+coreAfter (Claim j) k c =
+    cond (eqb (j .0) k) (coreBy (becomes (c .message .priority)) (becomes false) (becomes false) (becomes 0) (becomes 0) c) c
+coreAfter (Redeliver x) k c = c
+coreAfter (Complete x) k c = c
+
+-- Before settling a command changes just the fields of its row; settling then changes just boxes and delivered marks.
+pub record RowMet (s : Controller) (c : Command) : Type 0 where
+  pub sizes : ((effect s c) .n ≡ s .n) × ((effect s c) .m ≡ s .m)
+  pub sources : (i : ℕ) → sourceAt (effect s c) i ≡ sourceAfter c (suc i) (sourceAt s i)
+  pub cores : (k : ℕ) → coreAt (effect s c) k ≡ coreAfter c k (coreAt s k)
+  pub settled : bare ((execute s c) .state) ≡ bare (effect s c)
+
+abbrev pub RowsMet : Type 0
+RowsMet = (s : Controller) (c : Command) → refusal s c ≡ 0 → RowMet s c
+
+-- Settling leaves all else alone in every state, however many cycles it takes.
+abbrev pub SettlingLeavesBare : Type 0
+SettlingLeavesBare = (f : ℕ) (s : Controller) → bare (settle f s) ≡ bare s
+
+-- What answers an id is a claim, and an accepted claim answers that of the box.
+abbrev pub OnlyClaimAnswers : Type 0
+OnlyClaimAnswers = (s : Controller) (c : Command) → (execute s c) .id .0 ≢ 0 → (k : CoreId) × (c ≡ Claim k)
+
+abbrev pub ClaimAnswersBox : Type 0
+ClaimAnswersBox =
+    (s : Controller) (k : CoreId) → refusal s (Claim k) ≡ 0 → (execute s (Claim k)) .id ≡ (coreAt s (k .0)) .message .source
 
 -- ---- demand 2
 
