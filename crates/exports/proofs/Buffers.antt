@@ -45,4 +45,4 @@ module _ (b list answers : List ℕ) where
   pub fits : isState b ≡ true → length list % commandSize ≡ 0 → length list ≤ length answers → fitsRun b list answers ≡ true
   fits p e h =
       let room : length list / commandSize * answerSize ≤ length answers = omega arith in
-      and-in (and-in p (eq-eqb _ _ e)) (le-leb _ _ room)
+      and-in p (and-in (eq-eqb _ _ e) (le-leb _ _ room))

@@ -8,14 +8,16 @@ use Prim.Native.Nat.{ℕ, _+_, _/_, _%_, _<_, _≤_}
 use mathlib.Core.Path.{_≡_, refl, sym, ap, _∙_}
 use mathlib.Core.List.{List, [], _∷_, _++_}
 use mathlib.Core.Bool.{true}
-use lib.ListN.{length, getD, drop}
+use lib.ListN.{length, drop}
 use lib.Seq.{sets, length-sets}
 use native.Mathlib.Omega.{arith}
 use Rattle.model.specs.declared.Controller.{Controller}
 use Rattle.model.specs.declared.Command.{Command}
+use Rattle.model.specs.declared.Decoded.the-variants.{Known}
 use Rattle.model.specs.declared.Answer.{Answer}
 use Rattle.model.specs.Commands.{execute, run}
-use Rattle.model.specs.Bytes.{stateFrom, stateBytes, isState, runCall, commandSize, commandsIn, answersTo, answerBytes, joined}
+use Rattle.model.specs.Ledger.{answersTo}
+use Rattle.model.specs.Bytes.{stateFrom, stateBytes, isState, runCall, commandSize, commandsIn, answerBytes, joined}
 use Rattle.exports.proofs.Commands.{commandAt, commands-more}
 use Rattle.exports.proofs.Buffers.{sets-append, fits}
 use Rattle.exports.proofs.Calls.{DoesRun}
@@ -69,15 +71,14 @@ module _ (list answers₀ : List ℕ) (s₀ : Controller) where
 
   pub taken-more :
       (answers answers′ : List ℕ) (s : Controller) (i : ℕ) (c : Command) (a : Answer) →
-      Taken answers s i → i < length list → getD list i 0 ≤ 7 →
-      c ≡ commandAt list i → a ≡ execute s c → answers′ ≡ sets answers i (answerBytes a) →
+      Taken answers s i → i < length list →
+      commandAt list i ≡ Known c → a ≡ execute s c → answers′ ≡ sets answers i (answerBytes a) →
       Taken answers′ (a .state) (i + commandSize)
   unfolding run
-  taken-more answers answers′ s i c a t h k ec ea e =
+  taken-more answers answers′ s i c a t h ec ea e =
       let next : i + commandSize ≤ length list = more-left answers s i t h in
       let rest = left list (i + commandSize) in
-      let commands : left list i ≡ c ∷ rest
-      = commands-more list i next (omega arith) ∙ ap (λ (x : Command). x ∷ rest) (sym ec) in
+      let commands : left list i ≡ c ∷ rest = commands-more list i c next ec in
       record {
         within = next;
         whole = t .whole;

@@ -10,7 +10,7 @@ use Rattle.model.specs.declared.Command.{Command}
 use Rattle.model.specs.Records.{resetSource, sourceAt, reset}
 use Rattle.model.specs.WellFormed.{WellFormed}
 use Rattle.model.specs.Commands.{execute, run}
-use Rattle.model.specs.Ledger.{Ledger, opening, ledger, entryOf, entries, post}
+use Rattle.model.specs.Ledger.{Ledger, opening, ledger, entryOf, answersTo, paired, entries, post}
 use Rattle.model.specs.Statements.{InRange, PriorityStrict, DemandThree}
 use Rattle.soundness.proofs.Reset.{core-reset, source-reset, reset-wellFormed, makes-exactly}
 use Rattle.guarantees.proofs.Kept.{wellFormed-kept, cycles-bounded}
@@ -33,7 +33,7 @@ opening-matches n m R =
 
 -- from a sound state that the ledger matches
 run-matches : (n m : ℕ) (b : Ledger) (s : Controller) (cs : List Command) → WellFormed s → Matches n m b s → WellFormed (run s cs) × Matches n m (ledger b (entries s cs)) (run s cs)
-unfolding ledger entries run
+unfolding ledger entries answersTo paired run
 run-matches n m b s [] W M = (W, M)
 run-matches n m b s (c ∷ cs) W M =
     run-matches n m (post b (entryOf s c)) ((execute s c) .state) cs (wellFormed-kept s c W) (match-kept n m b s c W M)
