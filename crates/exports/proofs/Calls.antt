@@ -1,21 +1,24 @@
 -- What each call answers and writes, from what the functions that it calls hand back. Assumes nothing.
 --   make-unfit, make-refused, make-answered       `makeCall`
 --   bad-bytes, bad-number, execute-answered       `executeCall`
---   run-refused                                   `runCall`, where the list or a buffer does not fit; Running has the rest
+--   run-fit, run-unfit, run-by, run-refused       `runCall`: a run, none, either; Running has a run command by command
 use Prim.Native.Nat.{ℕ}
-use mathlib.Core.Path.{_≡_, refl, sym, _∙_, ap}
+use mathlib.Core.Path.{_≡_, refl, sym, _∙_, ap, subst}
 use mathlib.Core.List.{List}
 use mathlib.Core.Bool.{true, false}
 use lib.ListN.{length}
+use lib.Seq.{sets}
 use borrow.Author.Tests.{eq-eqb, ne-eqb}
+use Rattle.model.proofs.Bools.{Flag, on, off, flag}
 use Rattle.model.specs.declared.Controller.{Controller}
 use Rattle.model.specs.declared.Command.{Command}
 use Rattle.model.specs.declared.Decoded.{Decoded}
 use Rattle.model.specs.declared.Decoded.the-variants.{Unknown, Known}
 use Rattle.model.specs.declared.Answer.{Answer}
-use Rattle.model.specs.Commands.{execute, make}
+use Rattle.model.specs.Commands.{execute, make, run}
+use Rattle.model.specs.Ledger.{answersTo}
 use Rattle.model.specs.Encoding.{commandOf}
-use Rattle.model.specs.Bytes.{stateSize, stateBytes, stateFrom, isState, unreadable, packed, Call, callOf, makeCall, executedOn, executeCall, noCount, fitsRun, RunCall, runCall}
+use Rattle.model.specs.Bytes.{stateSize, stateBytes, stateFrom, isState, joined, commandsIn, answerBytes, unreadable, packed, Call, callOf, makeCall, executedOn, executeCall, noCount, fitsRun, RunCall, runCallOf, runCall}
 
 -- an answer r and bytes b are those of a call
 abbrev Does : ℕ → List ℕ → Call → Type 0
@@ -72,6 +75,32 @@ module _ (number at p : ℕ) (b : List ℕ) where
 
 abbrev pub DoesRun : ℕ → List ℕ → List ℕ → RunCall → Type 0
 DoesRun r b answers call = (r ≡ call .result) × (b ≡ call .bytes) × (answers ≡ call .answers)
+
+abbrev pub answersFrom : Controller → List Command → List ℕ
+answersFrom s cs = joined answerBytes (answersTo s cs)
+
+-- the run of the commands cs from the state s, over the answers given
+abbrev pub ranOver : List ℕ → Controller → List Command → RunCall
+ranOver answers s cs = runCallOf (length cs) (stateBytes (run s cs)) (sets answers 0 (answersFrom s cs))
+
+module _ (b list answers : List ℕ) where
+  pub run-fit : fitsRun b list answers ≡ true → runCall b list answers ≡ ranOver answers (stateFrom b) (commandsIn list)
+  unfolding runCall
+  run-fit e = rw e
+
+  pub run-unfit : fitsRun b list answers ≡ false → runCall b list answers ≡ runCallOf noCount b answers
+  unfolding runCall
+  run-unfit e = rw e
+
+  -- what holds of a run and of none
+  pub run-by :
+      (P : RunCall → Type 0) → (fitsRun b list answers ≡ true → P (ranOver answers (stateFrom b) (commandsIn list))) →
+      P (runCallOf noCount b answers) → P (runCall b list answers)
+  run-by P fit unfit = go (flag (fitsRun b list answers))
+    where
+      go : Flag (fitsRun b list answers) → P (runCall b list answers)
+      go (on e) = subst P (sym (run-fit e)) (fit e)
+      go (off e) = subst P (sym (run-unfit e)) unfit
 
 pub run-refused : (b list answers : List ℕ) → fitsRun b list answers ≡ false → DoesRun noCount b answers (runCall b list answers)
 unfolding runCall

@@ -3,7 +3,8 @@
 --   commands-more              they name a command
 --   commands-bad               they name none
 --   commands-end               no byte is left
-use Prim.Native.Nat.{ℕ, suc, _+_, _<_, _≤_}
+--   commands-length            a command takes five bytes
+use Prim.Native.Nat.{ℕ, suc, _+_, _*_, _<_, _≤_}
 use mathlib.Core.Path.{_≡_, ap, _∙_}
 use mathlib.Core.List.{List, [], _∷_}
 use lib.ListN.{length, getD, drop, drop-of-length-le}
@@ -15,6 +16,20 @@ use Rattle.model.specs.declared.Decoded.{Decoded}
 use Rattle.model.specs.declared.Decoded.the-variants.{Unknown, Known}
 use Rattle.model.specs.Encoding.{commandOf}
 use Rattle.model.specs.Bytes.{wordAt, commandSize, orEnd, commandsIn}
+
+orEnd-length : (d : Decoded) (rest : List Command) → length (orEnd d rest) ≤ suc (length rest)
+orEnd-length Unknown rest = omega arith
+orEnd-length (Known c) rest = omega arith
+
+pub commands-length : (l : List ℕ) → commandSize * length (commandsIn l) ≤ length l
+unfolding commandsIn
+commands-length [] = omega arith
+commands-length (a ∷ []) = omega arith
+commands-length (a ∷ b ∷ []) = omega arith
+commands-length (a ∷ b ∷ c ∷ []) = omega arith
+commands-length (a ∷ b ∷ c ∷ d ∷ []) = omega arith
+commands-length (a ∷ b ∷ c ∷ d ∷ e ∷ rest) =
+    omega (arith, orEnd-length (commandOf a (b + 256 * c) (d + 256 * e)) (commandsIn rest), commands-length rest)
 
 abbrev pub commandAt : List ℕ → ℕ → Decoded
 commandAt l i = commandOf (getD l i 0) (wordAt l (i + 1)) (wordAt l (i + 3))

@@ -20,14 +20,11 @@ use Rattle.model.specs.Ledger.{answersTo}
 use Rattle.model.specs.Bytes.{stateFrom, stateBytes, isState, runCall, commandSize, commandsIn, answerBytes, joined}
 use Rattle.exports.proofs.Commands.{commandAt, commands-more}
 use Rattle.exports.proofs.Buffers.{sets-append, fits}
-use Rattle.exports.proofs.Calls.{DoesRun}
+use Rattle.exports.proofs.Calls.{DoesRun, answersFrom}
 
--- the commands from place i on, and the bytes of what they answer from a state
+-- the commands from place i on
 abbrev pub left : List ℕ → ℕ → List Command
 left list i = commandsIn (drop i list)
-
-abbrev answersFrom : Controller → List Command → List ℕ
-answersFrom s cs = joined answerBytes (answersTo s cs)
 
 -- an answer written at i, and behind it those to the rest, are the answers from i on
 answers-more :
