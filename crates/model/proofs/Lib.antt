@@ -8,3 +8,4 @@ pub mod Boxes
 pub mod Priorities
 pub mod Candidates
 pub mod Examples
+pub mod BytesExamples

@@ -10,9 +10,10 @@
 --   Ledger        the ledger kept from commands and their answers; collection, placement, sorting
 --   Statements    what is claimed of all this, as propositions; their proofs are in the crates above this one
 --   Cases         the worked cases of document 01's table of runs
---   Encoding      a list of commands as numbers
+--   Encoding      a command as numbers
 --   Borrowed      the two calls on records that the host lends
 --   Bytes         a state, commands and answers as bytes
+--   BytesCases    worked cases of them
 pub mod Records
 pub mod Priorities
 pub mod Walks
@@ -27,3 +28,4 @@ pub mod Cases
 pub mod Encoding
 pub mod Borrowed
 pub mod Bytes
+pub mod BytesCases
