@@ -3,6 +3,7 @@ mod print;
 mod script;
 
 use model::Controller;
+use model::Decoded;
 use model::SourceId;
 
 // The table's start state, by the commands that set it up.
@@ -26,19 +27,23 @@ fn main() {
         let kind = script::SCRIPT[row + 1];
         let at = script::SCRIPT[row + 2];
         let priority = script::SCRIPT[row + 3];
-        if kind < 8 {
-            print::label(script::SCRIPT[row]);
-            print::command(kind, at, priority);
-            let a = commands::execute(s, batch::command(kind, at, priority));
-            print::answer(a);
-            s = a.state;
-        }
-        if kind == 8 {
-            print::start();
-            s = start();
-        }
-        if kind == 9 {
-            print::making(at, priority, commands::make(at, priority));
+        match encoding::command(kind, at, priority) {
+            Decoded::Known(c) => {
+                print::label(script::SCRIPT[row]);
+                print::command(kind, at, priority);
+                let a = commands::execute(s, c);
+                print::answer(a);
+                s = a.state;
+            }
+            Decoded::Unknown => {
+                if kind == script::START {
+                    print::start();
+                    s = start();
+                }
+                if kind == script::MAKE {
+                    print::making(at, priority, commands::make(at, priority));
+                }
+            }
         }
         i += 1;
     }

@@ -1,7 +1,11 @@
 // Document 01's "Table of runs", as rows of four numbers: the label (1 to 12 for T1 to T12, 0 for a step without one), the
-// command's number 0 to 7, the id or core, and the priority. Two further numbers stand in a command's place:
+// command's number 0 to 7, the id or core, and the priority. Two numbers that name no command stand in a command's place:
 //   8   go back to the table's start state: 32 sources, 2 cores, every source unmasked with priority equal to its id
 //   9   make a controller, of as many sources and cores as the last two numbers say
+pub const START: u16 = 8;
+
+pub const MAKE: u16 = 9;
+
 pub const ROWS: usize = 54;
 
 pub const SCRIPT: [u16; 216] = [

@@ -4,14 +4,14 @@ use Prim.Native.Nat.{ℕ, _<_}
 use mathlib.Core.Path.{_≡_, refl, sym, ap, subst}
 use mathlib.Core.List.{List, [], _∷_}
 use native.Mathlib.Omega.{arith}
+use Rattle.model.specs.Ledger.{paired, Ledger, Entry, opening, ledger, entryOf, entries, post, entriesBy}
+use Rattle.model.specs.Behaviours.{answersBy, runBy}
 use Rattle.model.specs.declared.Controller.{Controller}
 use Rattle.model.specs.declared.Answer.{Answer}
 use Rattle.model.specs.declared.Command.{Command}
 use Rattle.model.specs.Records.{resetSource, sourceAt, reset}
 use Rattle.model.specs.WellFormed.{WellFormed}
 use Rattle.model.specs.Commands.{execute, make, run}
-use Rattle.model.specs.Ledger.{Ledger, Entry, opening, ledger, entryOf, entries, post}
-use Rattle.model.specs.Behaviours.{runBy, entriesBy}
 use Rattle.model.specs.Statements.{InRange, PriorityStrict, EveryListStrict, DemandThree}
 use Rattle.soundness.proofs.Reset.{core-reset, source-reset, reset-wellFormed, makes-exactly}
 use Rattle.guarantees.proofs.Kept.{wellFormed-kept, nothing-cut-short, cycles-bounded}
@@ -34,7 +34,7 @@ opening-matches n m R =
 
 -- from a sound state that the ledger matches
 run-matches : (n m : ℕ) (b : Ledger) (s : Controller) (cs : List Command) → WellFormed s → Matches n m b s → WellFormed (run s cs) × Matches n m (ledger b (entries s cs)) (run s cs)
-unfolding ledger entries run
+unfolding ledger answersBy paired runBy
 run-matches n m b s [] W M = (W, M)
 run-matches n m b s (c ∷ cs) W M =
     run-matches n m (post b (entryOf s c)) ((execute s c) .state) cs (wellFormed-kept s c W) (match-kept n m b s c W M)
@@ -43,29 +43,14 @@ run-matches n m b s (c ∷ cs) W M =
 abbrev StrictFrom : ℕ → ℕ → List Command → Controller → Type 0
 StrictFrom n m cs s = PriorityStrict n m (ledger opening (entries s cs)) (run s cs)
 
-reset-strict : (n m : ℕ) (cs : List Command) → InRange n m → StrictFrom n m cs (reset n m)
+pub reset-strict : (n m : ℕ) (cs : List Command) → InRange n m → StrictFrom n m cs (reset n m)
 reset-strict n m cs R =
     let (W, M) = run-matches n m opening (reset n m) cs (reset-wellFormed n m R) (opening-matches n m R) in
     matched-strict n m (ledger opening (entries (reset n m) cs)) (run (reset n m) cs) W M
 
-pub made-strict : (n m : ℕ) (cs : List Command) → InRange n m → StrictFrom n m cs ((make n m) .state)
+made-strict : EveryListStrict execute
 made-strict n m cs R = subst (λ (a : Answer). StrictFrom n m cs (a .state)) (sym (makes-exactly n m .0 R)) (reset-strict n m cs R)
-
--- ---- of `execute` as one behaviour among others
-
-runBy-execute : (s : Controller) (cs : List Command) → runBy execute s cs ≡ run s cs
-unfolding run runBy
-runBy-execute s [] = refl
-runBy-execute s (c ∷ cs) = runBy-execute ((execute s c) .state) cs
-
-entriesBy-execute : (s : Controller) (cs : List Command) → entriesBy execute s cs ≡ entries s cs
-unfolding entries entriesBy
-entriesBy-execute s [] = refl
-entriesBy-execute s (c ∷ cs) = ap (λ (es : List Entry). entryOf s c ∷ es) (entriesBy-execute ((execute s c) .state) cs)
-
-every-list-strict : EveryListStrict execute
-every-list-strict n m cs R = rw (entriesBy-execute, runBy-execute) (made-strict n m cs R)
 
 pub demand-three : DemandThree
 demand-three =
-    record { every-list-strict = every-list-strict; cycles-bounded = cycles-bounded; nothing-cut-short = nothing-cut-short }
+    record { every-list-strict = made-strict; cycles-bounded = cycles-bounded; nothing-cut-short = nothing-cut-short }

@@ -11,3 +11,4 @@ pub mod Examples
 pub mod LentExamples
 pub mod StateExamples
 pub mod LedgerExamples
+pub mod BytesExamples

@@ -24,8 +24,8 @@ use Rattle.model.specs.Arbitration.{higher, highest, highestByWalk, high
 use Rattle.model.specs.WellFormed.{wellFormed, WellFormed}
 use Rattle.model.specs.Settling.{next, settle, isRetraction, isDelivery, countOf, cyclesOf}
 use Rattle.model.specs.Commands.{effect, refusal, execute, make}
-use Rattle.model.specs.Ledger.{Ledger, opening, ledger, collection, Placement, given, inBoxes, requestPriority, currentPriorities, row, sortDown}
-use Rattle.model.specs.Behaviours.{Behaviour, runBy, entriesBy}
+use Rattle.model.specs.Ledger.{Ledger, opening, ledger, collection, Placement, given, inBoxes, requestPriority, currentPriorities, row, sortDown, entriesBy}
+use Rattle.model.specs.Behaviours.{Behaviour, runBy}
 
 -- ---- sizes and priorities
 

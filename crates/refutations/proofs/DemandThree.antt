@@ -10,20 +10,20 @@ use native.Mathlib.Omega.{arith}
 use lib.ListN.{getD, take}
 use lib.Dec.{eqb}
 use borrow.Author.Tests.{eqb-false}
+use Rattle.model.specs.Ledger.{paired, Ledger, opening, post, postAccepted, ledger, competes, collection, given, inBoxes, currentPriorities, insertDown, sortDown, entriesBy}
+use Rattle.model.specs.Behaviours.{answersBy, Behaviour, runBy}
 use Rattle.model.specs.declared.Controller.{Controller}
 use Rattle.model.specs.declared.Command.{Command}
 use Rattle.model.specs.declared.Command.the-variants.{SetSourcePriority, Unmask, Trigger}
 use Rattle.model.specs.Records.{sourceId, coreAt}
 use Rattle.model.specs.Requests.{currentPriority}
 use Rattle.model.specs.Commands.{make}
-use Rattle.model.specs.Ledger.{Ledger, opening, post, postAccepted, ledger, competes, collection, given, inBoxes, currentPriorities, insertDown, sortDown}
-use Rattle.model.specs.Behaviours.{Behaviour, runBy, entriesBy}
 use Rattle.model.specs.Statements.{InRange, EveryListStrict}
 use Rattle.model.proofs.Examples.{computed}
 use Rattle.refutations.specs.Dummies.{changeNothing, flagsOnly, hollow, growing}
 
 unfoldable pub booked : Behaviour → Controller → List Command → Controller
-unfolding computed make ledger post postAccepted competes collection insertDown sortDown runBy entriesBy
+unfolding computed make ledger post postAccepted competes collection insertDown sortDown runBy answersBy paired
 booked = runBy
 
 module _ (x : Behaviour) (n m : ℕ) (sizes : InRange n m) (cs : List Command) where

@@ -5,10 +5,10 @@ use mathlib.Core.Path.{_≡_, refl, ap, _∙_}
 use mathlib.Core.Logic.{_≢_}
 use mathlib.Core.List.{List, [], _∷_}
 use borrow.Author.Tests.{ne-eqb}
+use Rattle.model.specs.Ledger.{entryWith, paired, Ledger, Entry, post, ledger, entriesBy}
+use Rattle.model.specs.Behaviours.{answersBy, runBy}
 use Rattle.model.specs.declared.Controller.{Controller}
 use Rattle.model.specs.declared.Command.{Command}
-use Rattle.model.specs.Ledger.{Ledger, Entry, post, ledger}
-use Rattle.model.specs.Behaviours.{runBy, entryBy, entriesBy}
 use Rattle.model.specs.Statements.{EveryListStrict}
 use Rattle.ledger.proofs.Theorem.{demand-three}
 use Rattle.refutations.specs.Dummies.{refuseEverything}
@@ -25,12 +25,12 @@ module _ (number : ℕ) (other : number ≢ 0) where
   unentered b e same = rw (same, ne-eqb number 0 other)
 
   unposted : (b : Ledger) (s : Controller) (cs : List Command) → ledger b (entriesBy (refuseEverything number) s cs) ≡ b
-  unfolding ledger entriesBy
+  unfolding ledger answersBy paired
   unposted b s [] = refl
   unposted b s (c ∷ cs) =
-      ap (λ (a : Ledger). ledger a (entriesBy (refuseEverything number) s cs)) (unentered b (entryBy (refuseEverything number) s c) refl) ∙
+      ap (λ (a : Ledger). ledger a (entriesBy (refuseEverything number) s cs)) (unentered b (entryWith c number 0) refl) ∙
       unposted b s cs
 
   pub refuseEverything-meets-three : EveryListStrict (refuseEverything number)
-  unfolding ledger runBy entriesBy
+  unfolding ledger runBy answersBy paired
   refuseEverything-meets-three n m cs R = rw (stays, unposted) (demand-three .every-list-strict n m [] R)

@@ -21,8 +21,10 @@ int main(void) {
     uint8_t state[PSIC_STATE_SIZE];
     expect(PSIC_NUMBER(psic_make(32, 2, state, sizeof state)) == 0, "32 sources and 2 cores are made");
     expect(psic_make(32, 2, state, sizeof state - 1) == PSIC_UNREADABLE, "a short buffer is refused");
+    uint8_t made[PSIC_STATE_SIZE];
+    memcpy(made, state, sizeof made);
     expect(PSIC_NUMBER(psic_make(129, 2, state, sizeof state)) == 2, "129 sources are refused by 2");
-    psic_make(32, 2, state, sizeof state);
+    expect(memcmp(state, made, sizeof made) == 0, "and leave the buffer as it was");
     for (uint16_t id = 1; id <= 32; id++) {
         command(state, 0, id, id);
         command(state, 2, id, 0);

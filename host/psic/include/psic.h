@@ -10,7 +10,8 @@
 #define PSIC_COMMAND_SIZE 5
 #define PSIC_ANSWER_SIZE 5
 
-/* Answered where bytes encode no state, a command's number is above 7, or a buffer is too short: nothing is written. */
+/* Answered where bytes encode no state, a command's number is above 7, a state's buffer is of another length, a list is no whole number
+   of commands, or the answers have no room: nothing is written. */
 #define PSIC_UNREADABLE 255u
 #define PSIC_NO_COUNT UINT64_MAX
 
@@ -49,7 +50,7 @@ typedef struct {
     uint16_t id;
 } psic_claimed;
 
-/* A fresh controller of n sources and m cores. */
+/* A fresh controller of n sources and m cores. A refusal by 2 leaves the buffer as it was. */
 uint64_t psic_make(uint16_t n, uint16_t m, uint8_t *state, size_t state_len);
 
 /* One command, by its number 0 to 7, with the id or core and the priority. */

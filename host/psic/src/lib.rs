@@ -113,11 +113,12 @@ impl Answer {
     }
 }
 
-/// The bytes encode no state, a command's number is above 7, or a buffer is too short. Nothing was written.
+/// The bytes encode no state, a command's number is above 7, a state's buffer is of another length, a list is no whole number of
+/// commands, or the answers have no room. Nothing was written.
 #[derive(Clone, Copy, Debug, PartialEq, Eq)]
 pub struct Unreadable;
 
-/// Makes a controller in a buffer of [`STATE_SIZE`] bytes.
+/// Makes a controller in a buffer of [`STATE_SIZE`] bytes. A refusal by 2 leaves the buffer as it was.
 pub fn make(n: u16, m: u16, state: &mut [u8]) -> Result<Answer, Unreadable> {
     answer(unsafe { psic_make(n, m, state.as_mut_ptr(), state.len()) })
 }

@@ -21,7 +21,8 @@ impl Model for Library {
     }
 
     fn make(&self, n: u16, m: u16) -> (u8, Vec<u8>) {
-        let mut state = vec![0; STATE_SIZE];
+        // A refusal leaves the buffer as it was: by value it answers this state.
+        let mut state = bytes_of(&Controller::reset(1, 1));
         let answer = psic::make(n, m, &mut state).expect("the buffer has a state's size");
         (answer.number, state)
     }

@@ -137,6 +137,32 @@ fn short_buffers_and_unreadable_bytes_are_refused_and_unchanged() {
 }
 
 #[test]
+fn a_refused_make_leaves_the_buffer_as_it_was() {
+    let mut state = vec![0; STATE_SIZE];
+    psic::make(3, 2, &mut state).expect("the buffer has a state's size");
+    let given = state.clone();
+    for (n, m) in [(0, 1), (1, 0), (129, 1), (1, 33), (0, 0)] {
+        let answer = psic::make(n, m, &mut state).expect("the buffer has a state's size");
+        assert_eq!((answer.number, answer.id, answer.cycles), (2, 0, 0));
+        assert_eq!(state, given);
+    }
+}
+
+#[test]
+fn a_refused_list_leaves_the_state_and_the_rest_of_the_answers() {
+    let mut state = vec![0; STATE_SIZE];
+    psic::make(3, 2, &mut state).expect("the buffer has a state's size");
+    let given = state.clone();
+    let list = [4, 4, 0, 0, 0, 5, 0, 0, 0, 0, 7, 1, 0, 0, 0];
+    let mut answers = vec![9; 3 * ANSWER_SIZE + 4];
+    assert_eq!(psic::run(&mut state, &list, &mut answers), Ok(3));
+    let (written, rest) = answers.split_at(3 * ANSWER_SIZE);
+    assert_eq!(written, [4, 0, 0, 0, 0, 7, 0, 0, 0, 0, 8, 0, 0, 0, 0]);
+    assert_eq!(rest, [9; 4]);
+    assert_eq!(state, given);
+}
+
+#[test]
 fn a_bad_number_ends_a_list_and_what_ran_before_it_stands() {
     let mut state = vec![0; STATE_SIZE];
     psic::make(3, 2, &mut state).expect("sizes in range");

@@ -46,6 +46,12 @@ mul-priority c = search needs
 array-read-priority : tie.Need-array-read-priority Inv-loop μ-loop
 array-read-priority c = search needs
 
+command-requires : tie.Need-command-requires Inv-loop μ-loop
+command-requires c κs = search needs
+
+enum-known-c : tie.Need-enum-known-c Inv-loop μ-loop
+enum-known-c c = search needs
+
 mul-label : tie.Need-mul-label Inv-loop μ-loop
 mul-label c = search needs
 
@@ -55,9 +61,6 @@ array-read-label c = search needs
 label-requires : tie.Need-label-requires Inv-loop μ-loop
 label-requires c κs = search needs
 
-command-requires : tie.Need-command-requires Inv-loop μ-loop
-command-requires c κs = search needs
-
 command-requires-2 : tie.Need-command-requires-2 Inv-loop μ-loop
 command-requires-2 c κs = search needs
 
@@ -66,6 +69,9 @@ execute-requires c κs = search needs
 
 answer-requires : tie.Need-answer-requires Inv-loop μ-loop
 answer-requires c κs = search needs
+
+enum-told : tie.Need-enum-told Inv-loop μ-loop
+enum-told c = search needs
 
 start-requires-2 : tie.Need-start-requires-2 Inv-loop μ-loop
 start-requires-2 c κs = search needs
@@ -109,13 +115,15 @@ main-spec =
     add-priority
     mul-priority
     array-read-priority
+    command-requires
+    enum-known-c
     mul-label
     array-read-label
     label-requires
-    command-requires
     command-requires-2
     execute-requires
     answer-requires
+    enum-told
     start-requires-2
     start-requires-3
     make-requires
