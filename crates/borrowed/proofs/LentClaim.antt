@@ -18,7 +18,7 @@ use Rattle.model.specs.Priorities.{topPriority}
 use Rattle.model.specs.WellFormed.{WellFormed, Backed}
 use Rattle.model.specs.Commands.{claimedCore, nothingToClaim, refusalOf, refusal, refused, execute}
 use Rattle.model.specs.Borrowed.{claimable, takenFrom, LentClaimIsCommand}
-use Rattle.model.proofs.Bools.{not-in, Flag, on, off, flag}
+use Rattle.lists.proofs.Bools.{not-in, Flag, on, off, flag}
 use Rattle.model.proofs.Priorities.{top-lt}
 use Rattle.soundness.proofs.Test.{wellFormed-in}
 use Rattle.guarantees.proofs.Accepted.{execute-refused}

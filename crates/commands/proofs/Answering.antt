@@ -25,7 +25,7 @@ use Rattle.model.specs.Records.{maxSources, maxCores, coreAt, reset, answer}
 use Rattle.model.specs.Priorities.{topPriority}
 use Rattle.model.specs.WellFormed.{sizesInRange, wellFormed, WellFormed}
 use Rattle.model.specs.Commands.{unless, namesSource, namesCore, effect, refusalOf, refusal, answeredId, settled, refused, execute, make}
-use Rattle.soundness.proofs.Exact.{between-exact}
+use Rattle.lists.proofs.Exact.{between-exact}
 use Rattle.soundness.proofs.Test.{wellFormed-out}
 use Rattle.guarantees.proofs.Accepted.{execute-accepted, execute-refused}
 

@@ -20,10 +20,11 @@ use Rattle.model.specs.declared.Command.the-variants.{SetSourcePriority, Mask, 
 use Rattle.model.specs.Records.{maxCores, noSource, indexOf, sourceAt, coreAt, withConfigured, withMask, withDelivered, opened, ended, withSource, answer}
 use Rattle.model.specs.Priorities.{topPriority}
 use Rattle.model.specs.Requests.{currentPriority, waiting, candidate, claimed}
-use Rattle.model.specs.WellFormed.{between, WellFormed}
+use Rattle.lists.specs.Numbers.{between}
+use Rattle.model.specs.WellFormed.{WellFormed}
 use Rattle.model.specs.Commands.{unless, namesSource, effect, refusalOf, answeredId, settled, execute}
-use Rattle.model.proofs.Bools.{and-r, clash}
-use Rattle.model.proofs.Writes.{read-set}
+use Rattle.lists.proofs.Bools.{and-r, clash}
+use Rattle.lists.proofs.Writes.{read-set}
 use Rattle.soundness.proofs.Test.{wellFormed-out}
 use Rattle.settling.specs.Phases.{Consistent, Delivering}
 use Rattle.settling.specs.Runs.{AfterDeliveries}

@@ -17,7 +17,7 @@ use Rattle.model.specs.Records.{coreAt, withCore, answer}
 use Rattle.model.specs.WellFormed.{WellFormed}
 use Rattle.model.specs.Settling.{next, settle, isRetraction, isDelivery, cyclesOf}
 use Rattle.model.specs.Commands.{claimedCore, effect, refusalOf, refusal, answeredId, settled, execute}
-use Rattle.model.proofs.Bools.{clash}
+use Rattle.lists.proofs.Bools.{clash}
 use Rattle.soundness.proofs.Test.{wellFormed-in}
 use Rattle.settling.specs.Phases.{Consistent, Delivering}
 use Rattle.settling.specs.Runs.{AfterDeliveries}

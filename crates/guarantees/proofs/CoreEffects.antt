@@ -17,8 +17,8 @@ use Rattle.model.specs.Records.{maxCores, noCore, resetCore, emptyBox, dirtied,
 use Rattle.model.specs.Priorities.{topPriority}
 use Rattle.model.specs.Requests.{currentPriority}
 use Rattle.model.specs.Commands.{soiled, claimedCore}
-use Rattle.model.proofs.Bools.{clash}
-use Rattle.model.proofs.Writes.{read-set}
+use Rattle.lists.proofs.Bools.{clash}
+use Rattle.lists.proofs.Writes.{read-set}
 use Rattle.settling.specs.Phases.{Consistent, Holding, AllDirty, Delivering}
 use Rattle.guarantees.proofs.Checked.{InTop}
 

@@ -10,7 +10,7 @@ use Rattle.model.specs.Records.{indexOf, sourceAt, coreAt}
 use Rattle.model.specs.Requests.{boxed, claimed, Owner, bySource, byBox, bySoftware, Owns}
 use Rattle.model.specs.WellFormed.{WellFormed, Backed}
 use Rattle.model.specs.Statements.{OneOwner}
-use Rattle.model.proofs.Bools.{and-in, and-l, and-r, not-in, Flag, on, off, flag}
+use Rattle.lists.proofs.Bools.{and-in, and-l, and-r, not-in, Flag, on, off, flag}
 use Rattle.model.proofs.Boxes.{holds-filled, holds-source, boxed-in, boxed-out}
 
 pub claimed-out : (s : Controller) (i : ℕ) → claimed s i ≡ true → ((sourceAt s i) .pending ≡ true) × ((sourceAt s i) .delivered ≡ true) × (boxed (s .cores) (s .m) (suc i) ≡ false)

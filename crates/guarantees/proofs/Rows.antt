@@ -20,7 +20,7 @@ use Rattle.model.specs.Records.{maxCores, noSource, noCore, indexOf, withConfig
 use Rattle.model.specs.WellFormed.{WellFormed}
 use Rattle.model.specs.Commands.{soiled, claimedCore, effect, refusal, settled, execute}
 use Rattle.model.specs.Statements.{Change, keep, becomes, changed, coreBy, sourceAfter, coreAfter, RowsMet}
-use Rattle.model.proofs.Writes.{read-written}
+use Rattle.lists.proofs.Writes.{read-written}
 use Rattle.guarantees.proofs.Accepted.{execute-accepted}
 use Rattle.guarantees.proofs.Checked.{Named, Checked, accepted}
 use Rattle.guarantees.proofs.Effects.{effect-sizes}

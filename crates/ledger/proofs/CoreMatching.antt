@@ -15,10 +15,11 @@ use Rattle.model.specs.Records.{noCore, coreWith, sourceAt, coreAt, withCores, 
 use Rattle.model.specs.Requests.{holds, boxed}
 use Rattle.model.specs.WellFormed.{WellFormed, Backed}
 use Rattle.model.specs.Commands.{soiled, claimedCore}
-use Rattle.model.specs.Ledger.{Ledger, claimedRequest, priorityOf, write, writeCore, writeRequest}
-use Rattle.model.proofs.Bools.{refuted}
+use Rattle.model.specs.Ledger.{Ledger, claimedRequest, priorityOf, writeCore, writeRequest}
+use Rattle.lists.specs.Rows.{write}
+use Rattle.lists.proofs.Bools.{refuted}
 use Rattle.model.proofs.Boxes.{holds-filled, holds-source, unboxed-in, boxed-agree}
-use Rattle.model.proofs.Writes.{read-set, read-kept, read-written}
+use Rattle.lists.proofs.Writes.{read-set, read-kept, read-written}
 use Rattle.guarantees.proofs.CoreEffects.{claimedCores, setCores}
 use Rattle.ledger.specs.Matches.{Matches, requestOf}
 use Rattle.ledger.proofs.Requests.{pending-priority}

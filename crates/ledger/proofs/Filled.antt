@@ -10,7 +10,7 @@ use Rattle.model.specs.Records.{coreAt}
 use Rattle.model.specs.Requests.{currentPriority, boxed}
 use Rattle.model.specs.WellFormed.{WellFormed, Backed}
 use Rattle.model.specs.Ledger.{Ledger, openRequest, competes, requestPriority, Placement, given, inBoxes}
-use Rattle.model.proofs.Bools.{or-in-l, Flag, on, off, flag}
+use Rattle.lists.proofs.Bools.{or-in-l, Flag, on, off, flag}
 use Rattle.model.proofs.Boxes.{holds-in, boxed-in}
 use Rattle.guarantees.proofs.Checked.{by-index}
 use Rattle.ledger.specs.Matches.{Matches}

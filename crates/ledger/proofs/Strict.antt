@@ -11,20 +11,21 @@ use borrow.Author.Tests.{ltb-true, ltb-false}
 use Rattle.model.specs.declared.Controller.{Controller}
 use Rattle.model.specs.Records.{sourceAt, coreAt}
 use Rattle.model.specs.Requests.{currentPriority, waiting, holds, boxed}
-use Rattle.model.specs.Walks.{some}
+use Rattle.lists.specs.Walks.{some}
 use Rattle.model.specs.WellFormed.{WellFormed}
-use Rattle.model.specs.Ledger.{Ledger, row, competes, requestPriority, collection, given, inBoxes, currentPriorities}
+use Rattle.model.specs.Ledger.{Ledger, competes, requestPriority, collection, given, inBoxes, currentPriorities}
+use Rattle.lists.specs.Rows.{row}
 use Rattle.model.specs.Statements.{PriorityStrict}
-use Rattle.model.proofs.Bools.{and-in, and-l, or-off, Flag, on, off, flag}
-use Rattle.model.proofs.Walks.{Witness, some-out, some-false-out}
+use Rattle.lists.proofs.Bools.{and-in, and-l, or-off, Flag, on, off, flag}
+use Rattle.lists.proofs.Walks.{Witness, some-out, some-false-out}
 use Rattle.model.proofs.Boxes.{holds-filled, holds-source, boxed-out}
-use Rattle.model.proofs.Counting.{total-le, total-add, reach, reach-under, reached-all}
+use Rattle.lists.proofs.Counting.{total-le, total-add, reach, reach-under, reached-all}
 use Rattle.ledger.specs.Matches.{Matches, MatchedStrict}
-use Rattle.ledger.proofs.Counting.{Sent, nowhere, to, total-sent, count, count-one, count-row, row-count-le, row-length, row-cong}
+use Rattle.lists.proofs.Counts.{Sent, nowhere, to, total-sent, count, count-one, count-row, row-count-le, row-length, row-cong}
 use Rattle.ledger.proofs.Placements.{offered, collection-count, collection-length, Competing, competes-out, placement-count}
 use Rattle.ledger.proofs.Requests.{pending-priority, unboxed-waits}
 use Rattle.ledger.proofs.Filled.{current-given, box-priority, boxes-placed}
-use Rattle.ledger.proofs.Sorting.{sorted-le, top-of}
+use Rattle.lists.proofs.Sorting.{sorted-le, top-of}
 
 module _ (b : Ledger) (s : Controller) where
   abbrev current : ℕ → ℕ

@@ -15,9 +15,9 @@ use Rattle.model.specs.Priorities.{topPriority}
 use Rattle.model.specs.Requests.{currentPriority, candidate}
 use Rattle.model.specs.WellFormed.{Backed, WellFormed}
 use Rattle.model.specs.Settling.{deliver, next}
-use Rattle.model.proofs.Bools.{clash}
+use Rattle.lists.proofs.Bools.{clash}
 use Rattle.model.proofs.Candidates.{candidate-pending}
-use Rattle.model.proofs.Counting.{reached, reached-le, reached-more}
+use Rattle.lists.proofs.Counting.{reached, reached-le, reached-more}
 use Rattle.settling.specs.Phases.{Holding, Consistent, Delivering}
 use Rattle.settling.proofs.Writes.{core-deliver-other, deliver-sizes}
 use Rattle.settling.proofs.Keeps.{deliver-keeps}

@@ -17,11 +17,11 @@ use Rattle.model.specs.declared.Controller.{Controller}
 use Rattle.model.specs.declared.Cycle.the-variants.{Rest, Deliver}
 use Rattle.model.specs.Records.{maxSources, maxCores, sourceId, coreId, sourceAt, coreAt}
 use Rattle.model.specs.Priorities.{topPriority}
-use Rattle.model.specs.Walks.{walk}
+use Rattle.lists.specs.Walks.{walk}
 use Rattle.model.specs.Requests.{currentPriority, candidate}
 use Rattle.model.specs.Arbitration.{rank}
 use Rattle.model.specs.Settling.{interruptedBy, arbitrate, next}
-use Rattle.model.proofs.Bools.{and-in, Flag, on, off, flag}
+use Rattle.lists.proofs.Bools.{and-in, Flag, on, off, flag}
 use Rattle.model.proofs.Candidates.{rank-candidate, rank-none}
 use Rattle.model.proofs.Priorities.{top-lt}
 use Rattle.arbitration.specs.Keys.{HighestKey, keyBelow}

@@ -10,7 +10,7 @@ use Rattle.model.specs.declared.Controller.{Controller}
 use Rattle.model.specs.Records.{maxSources, maxCores, resetSource, resetCore, emptyBox, indexOf, sourceAt, sourceId, coreWith}
 use Rattle.model.specs.WellFormed.{sizesInRange, sourceInRange, isEmptyBox, coreInRange, isResetSource, isResetCore, backedBy, isBacked, sameSource, Backed}
 use Rattle.model.specs.Statements.{InRange}
-use Rattle.soundness.proofs.Exact.{Exact, _and_, flag-exact, not-exact, leb-exact, ltb-exact, eqb-exact, between-exact, unless-exact, implies-exact}
+use Rattle.lists.proofs.Exact.{Exact, _and_, flag-exact, not-exact, leb-exact, ltb-exact, eqb-exact, between-exact, unless-exact, implies-exact}
 
 pub sizes-exact : (n m : ℕ) → Exact (sizesInRange n m) (InRange n m)
 unfolding sizesInRange

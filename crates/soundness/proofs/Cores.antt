@@ -18,10 +18,10 @@ use Rattle.model.specs.Records.{noSource, sourceAt, coreAt}
 use Rattle.model.specs.Priorities.{topPriority}
 use Rattle.model.specs.Requests.{boxed}
 use Rattle.model.specs.WellFormed.{Backed, WellFormed}
-use Rattle.model.proofs.Bools.{clash}
+use Rattle.lists.proofs.Bools.{clash}
 use Rattle.model.proofs.Boxes.{holds-in, unboxed-out}
 use Rattle.soundness.specs.Loops.{coreFits, cleanBacked}
-use Rattle.soundness.proofs.Exact.{Exact, _and_, flag-exact, not-exact, eqb-exact, ltb-exact, between-exact, implies-exact}
+use Rattle.lists.proofs.Exact.{Exact, _and_, flag-exact, not-exact, eqb-exact, ltb-exact, between-exact, implies-exact}
 use Rattle.soundness.proofs.Clauses.{CoreFits, core-exact, SameSource}
 
 -- the core is in range, and a filled box names one of n sources

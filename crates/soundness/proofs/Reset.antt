@@ -15,8 +15,8 @@ use Rattle.model.specs.Requests.{candidate}
 use Rattle.model.specs.WellFormed.{sizesInRange}
 use Rattle.model.specs.Commands.{make}
 use Rattle.model.specs.Statements.{ResetWellFormed, MakesExactly}
-use Rattle.model.proofs.Bools.{clash}
-use Rattle.soundness.proofs.Exact.{refuted-exact}
+use Rattle.lists.proofs.Bools.{clash}
+use Rattle.lists.proofs.Exact.{refuted-exact}
 use Rattle.soundness.proofs.Clauses.{sizes-exact, SourceFits}
 
 pub top-positive : (n : ℕ) → 1 ≤ topPriority n

@@ -21,8 +21,8 @@ use Rattle.model.specs.Arbitration.{least, leastPriority}
 use Rattle.model.specs.WellFormed.{sizesInRange, listsWhole, sourcesInRange, coresInRange, sparesReset, boxesBacked, boxesDistinct, boxesClean, candidatesSettled, coveredSettled, wellFormed, WellFormed, Backed}
 use Rattle.model.specs.Statements.{TestExact}
 use Rattle.arbitration.proofs.Tree.{least-le, least-below}
-use Rattle.model.proofs.Bools.{and-in, and-l, and-r}
-use Rattle.soundness.proofs.Exact.{Exact, _and_, not-exact, leb-exact, eqb-exact, refuted-exact, implies-exact, from-exact, every-exact}
+use Rattle.lists.proofs.Bools.{and-in, and-l, and-r}
+use Rattle.lists.proofs.Exact.{Exact, _and_, not-exact, leb-exact, eqb-exact, refuted-exact, implies-exact, from-exact, every-exact}
 use Rattle.soundness.proofs.Clauses.{sizes-exact, SourceFits, source-exact, CoreFits, core-exact, reset-source-exact, reset-core-exact, backed-exact, SameSource, same-source-exact}
 
 -- the clauses, each passed

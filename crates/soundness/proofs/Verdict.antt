@@ -13,13 +13,13 @@ use Rattle.model.specs.declared.Core.{Core}
 use Rattle.model.specs.declared.Controller.{Controller}
 use Rattle.model.specs.Records.{maxSources, maxCores, noCore, resetCore, sourceAt, coreAt}
 use Rattle.model.specs.Priorities.{topPriority}
-use Rattle.model.specs.Walks.{every}
+use Rattle.lists.specs.Walks.{every}
 use Rattle.model.specs.WellFormed.{WellFormed}
 use Rattle.model.specs.Statements.{InRange}
 use Rattle.model.proofs.Candidates.{candidate-pending}
 use Rattle.model.proofs.Priorities.{top-lt}
 use Rattle.soundness.specs.Loops.{spareCore}
-use Rattle.soundness.proofs.Exact.{Exact, from-exact, every-exact}
+use Rattle.lists.proofs.Exact.{Exact, from-exact, every-exact}
 use Rattle.soundness.proofs.Clauses.{reset-core-exact}
 use Rattle.soundness.proofs.Test.{sources-apart}
 use Rattle.soundness.proofs.Fits.{fitsAt, AllFit}

@@ -10,16 +10,16 @@ use lib.ListN.{length}
 use borrow.Author.Needs.{needs}
 use Rattle.model.specs.Records.{maxSources, maxCores, coreAt}
 use Rattle.model.specs.Priorities.{topPriority}
-use Rattle.model.specs.Walks.{every}
+use Rattle.lists.specs.Walks.{every}
 use Rattle.model.specs.WellFormed.{wellFormed}
 use Rattle.model.specs.Statements.{InRange}
 use Rattle.model.proofs.Priorities.{top-lt}
 use Rattle.soundness.specs.Loops.{spareCore}
-use Rattle.model.proofs.Arrays.{unmapped}
-use Rattle.soundness.proofs.Exact.{flag-exact, refused, given, accepted, rejected, agree}
+use Rattle.lists.proofs.Arrays.{unmapped}
+use Rattle.lists.proofs.Exact.{flag-exact, refused, given, accepted, rejected, agree}
 use Rattle.soundness.proofs.Clauses.{sizes-exact}
 use Rattle.soundness.proofs.Test.{test-exact}
-use Rattle.soundness.proofs.Turns.{since-begin, since-turn, since-end}
+use Rattle.lists.proofs.Turns.{since-begin, since-turn, since-end}
 use Rattle.soundness.proofs.Fits.{sources-fit-exact}
 use Rattle.soundness.proofs.Cores.{CoreNames, core-fits-exact, CoreSound, core-sound, idAt, backedAt, names-out, backed-out}
 use Rattle.soundness.proofs.Marks.{Boxes, boxes-begin, marked-twice, filled-turn, empty-turn, Lowest, lowest-begin, lowest-lower, lowest-same}
