@@ -86,7 +86,7 @@ as-variant s e is = is ∙ ap (execute s) (sym e)
 -- ---- a source of a sound state, and a core
 
 pub cores-in-array : (s : Controller) → wellFormed s ≡ true → s .m ≤ maxCores
-cores-in-array s sound = (wellFormed-out s sound) .m-le
+cores-in-array s sound = (wellFormed-out s sound) .consistent .m-le
 
 pub record Addressed (s : Controller) (id : SourceId) : Type 0 where
   pub sound : wellFormed s ≡ true

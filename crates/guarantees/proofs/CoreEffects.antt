@@ -19,7 +19,8 @@ use Rattle.model.specs.Requests.{currentPriority}
 use Rattle.model.specs.Commands.{soiled, claimedCore}
 use Rattle.lists.proofs.Bools.{clash}
 use Rattle.lists.proofs.Writes.{read-set}
-use Rattle.settling.specs.Phases.{Consistent, Holding, AllDirty, Delivering}
+use Rattle.model.specs.WellFormed.{Consistent, Holding}
+use Rattle.settling.specs.Phases.{AllDirty, Delivering}
 use Rattle.guarantees.proofs.Checked.{InTop}
 
 pub record Carried (c d : Core) : Type 0 where

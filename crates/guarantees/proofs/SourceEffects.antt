@@ -16,7 +16,7 @@ use Rattle.model.specs.Requests.{holds, claimed}
 use Rattle.lists.proofs.Bools.{clash}
 use Rattle.model.proofs.Boxes.{holds-in, holds-filled, holds-source, unboxed-out}
 use Rattle.lists.proofs.Writes.{read-set}
-use Rattle.settling.specs.Phases.{Consistent, Holding}
+use Rattle.model.specs.WellFormed.{Consistent, Holding}
 use Rattle.guarantees.proofs.Checked.{InTop}
 use Rattle.guarantees.proofs.Owners.{claimed-out}
 

@@ -60,7 +60,7 @@ module _ (b : Ledger) (s : Controller) where
         let unmasked : not (b .masked (suc i)) ≡ true = or-off (boxed (s .cores) (s .m) (suc i)) (not (b .masked (suc i))) (c .placed) e in
         let waits : waiting (sourceAt s i) ≡ true = unboxed-waits (s .n) (s .m) b s match i p (c .is-open) e in
         rw (pending-priority (s .n) (s .m) b s match i p (and-l _ _ waits))
-        (w .candidates-settled i k p q (and-in waits (rw (match .masked i p) at unmasked)))
+        (w .quiet .candidates-settled i k p q (and-in waits (rw (match .masked i p) at unmasked)))
 
     module _ (t : ℕ) where
       currents-le : count t currents ≤ count t everything
@@ -81,7 +81,7 @@ module _ (b : Ledger) (s : Controller) where
           where
             go : Flag ((coreAt s k) .message .filled) → reach t (b .core k) + shown t k ≤ reach t (current k)
             go (on f) =
-                let covered : b .core k < t = omega (arith, match .core k below, w .covered-settled k low below low-below f) in
+                let covered : b .core k < t = omega (arith, match .core k below, w .quiet .covered-settled k low below low-below f) in
                 rw f (omega (arith, reach-under t (b .core k) covered))
             go (off f) = rw (f, match .core k below) (omega arith)
 

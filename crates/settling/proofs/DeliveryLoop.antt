@@ -16,7 +16,8 @@ use Rattle.model.specs.Records.{maxSources, maxCores, sourceId, coreId, withDel
 use Rattle.lists.specs.Walks.{walk}
 use Rattle.model.specs.Settling.{next, settle, cyclesOf, isRetraction, isDelivery}
 use Rattle.arbitration.specs.Keys.{HighestKey, keyBelow}
-use Rattle.settling.specs.Phases.{Consistent, Delivering}
+use Rattle.model.specs.WellFormed.{Consistent}
+use Rattle.settling.specs.Phases.{Delivering}
 use Rattle.settling.specs.Runs.{RanksOf, CurrentsOf, AfterDeliveries}
 use Rattle.settling.proofs.Writes.{deliver-sizes}
 use Rattle.settling.proofs.Arbitrated.{Arbitrated}

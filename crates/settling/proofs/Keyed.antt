@@ -27,7 +27,8 @@ use Rattle.model.proofs.Priorities.{top-lt}
 use Rattle.arbitration.specs.Keys.{HighestKey, keyBelow}
 use Rattle.arbitration.proofs.Tree.{highest-below, least-below}
 use Rattle.arbitration.proofs.ByKeys.{highest-by-keys, least-by-keys}
-use Rattle.settling.specs.Phases.{Holding, Consistent, Delivering}
+use Rattle.model.specs.WellFormed.{Holding, Consistent}
+use Rattle.settling.specs.Phases.{Delivering}
 use Rattle.settling.specs.Runs.{RanksOf, CurrentsOf}
 use Rattle.settling.proofs.Arbitrated.{Arbitrated, contest-arbitrated}
 use Rattle.settling.proofs.Next.{Contest, topSource, lowCore, contest, next-clean}

@@ -79,7 +79,7 @@ returns c =
     refused (test-exact s)
     (λ w.
     rejected (sizes-exact (s .n) (s .m)) (c .before .sizes-in-range .ensures) (c .if1 .taken)
-    (record { some-source = w .some-source; n-le = w .n-le; some-core = w .some-core; m-le = w .m-le }))
+    (record { some-source = w .consistent .some-source; n-le = w .consistent .n-le; some-core = w .consistent .some-core; m-le = w .consistent .m-le }))
 
 cast-m : tie.Need-cast-m Inv-loop μ-loop Inv-loop2 μ-loop2
 cast-m c = omega (arith, in-range c)
@@ -221,7 +221,7 @@ returns-6 : tie.Need-returns-6 Inv-loop μ-loop Inv-loop2 μ-loop2
 returns-6 c =
     let s = c .before .before .before .before .before .before .before .before .before .args .t1 in
     refused (test-exact s)
-    (λ w. rejected (spare-cores-exact (s .cores) (s .m)) (fresh-is (c .before)) (c .if10 .taken) (λ i h g. w .spare-core i g h))
+    (λ w. rejected (spare-cores-exact (s .cores) (s .m)) (fresh-is (c .before)) (c .if10 .taken) (λ i h g. w .consistent .spare-core i g h))
 
 cast-sources-fit : tie.Need-cast-sources-fit Inv-loop μ-loop Inv-loop2 μ-loop2
 cast-sources-fit c = search needs
