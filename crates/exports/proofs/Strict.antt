@@ -33,7 +33,7 @@ use Rattle.exports.proofs.Answers.{written, entries-read, cycles-told}
 
 -- a sound state has the arrays' lengths, and stays sound through a list
 sized : (s : Controller) → WellFormed s → Sized s
-sized s w = record { sources = w .sources-length; cores = w .cores-length }
+sized s w = record { sources = w .consistent .sources-length; cores = w .consistent .cores-length }
 
 run-wellFormed : (s : Controller) (cs : List Command) → WellFormed s → WellFormed (run s cs)
 unfolding runBy

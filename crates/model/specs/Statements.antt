@@ -8,6 +8,7 @@ use mathlib.Core.List.{List}
 use mathlib.Core.Bool.{Bool, true, false, not, _||_, cond}
 use lib.ListN.{getD, take}
 use lib.Dec.{ltb, leb, eqb}
+use Rattle.model.specs.WellFormed.{Quiet, quiet, Clean, boxesClean, Consistent, consistent, wellFormed, WellFormed}
 use Rattle.lists.specs.Walks.{FirstOf, comparisons}
 use Rattle.model.specs.declared.Source.{Source}
 use Rattle.model.specs.declared.CoreId.{CoreId}
@@ -21,7 +22,6 @@ use Rattle.model.specs.Records.{maxSources, maxCores, noSource, sourceId
 use Rattle.model.specs.Priorities.{floorLog2, topPriority}
 use Rattle.model.specs.Requests.{currentPriority, candidate, claimed, Owner, Owns}
 use Rattle.model.specs.Arbitration.{higher, highest, highestByWalk, highestId, lower, least}
-use Rattle.model.specs.WellFormed.{wellFormed, WellFormed}
 use Rattle.model.specs.Settling.{next, settle, isRetraction, isDelivery, countOf, cyclesOf}
 use Rattle.model.specs.Commands.{effect, refusal, execute, make}
 use Rattle.model.specs.Ledger.{Ledger, opening, ledger, collection, Placement, given, inBoxes, requestPriority, currentPriorities, entriesBy}
@@ -60,6 +60,12 @@ ResetWellFormed = (n m : ℕ) → InRange n m → WellFormed (reset n m)
 
 abbrev pub TestExact : Type 0
 TestExact = (s : Controller) → (wellFormed s ≡ true) ↔ WellFormed s
+
+-- Each layer's test means its proposition; without a core the last one's has no least priority to compare with.
+abbrev pub LayersExact : Type 0
+LayersExact =
+    (s : Controller) →
+    ((consistent s ≡ true) ↔ Consistent s) × ((boxesClean s ≡ true) ↔ Clean s) × (1 ≤ s .m → (quiet s ≡ true) ↔ Quiet s)
 
 abbrev pub WellFormedKept : Type 0
 WellFormedKept = (s : Controller) (c : Command) → WellFormed s → WellFormed ((execute s c) .state)

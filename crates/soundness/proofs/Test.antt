@@ -2,6 +2,8 @@
 -- the test's order. Assumes nothing.
 --   wellFormed-out, wellFormed-in    the two directions
 --   test-exact                       both
+--   layers-exact                     the same of each layer
+use Rattle.model.specs.Statements.{LayersExact, TestExact}
 use Rattle.model.specs.WellFormed.{Quiet, quiet, consistent, Consistent, Clean, sizesInRange, listsWhole, sourcesInRange, coresInRange, sparesReset, boxesBacked, boxesDistinct, boxesClean, candidatesSettled, coveredSettled, wellFormed, WellFormed, Holding}
 use Prim.Native.Nat.{ℕ, _<_, _≤_}
 use mathlib.Core.Path.{_≡_, sym}
@@ -19,7 +21,6 @@ use Rattle.model.specs.Records.{maxSources, maxCores, noCore, resetSource, rese
 use Rattle.model.specs.Priorities.{topPriority}
 use Rattle.model.specs.Requests.{currentPriority, candidate}
 use Rattle.model.specs.Arbitration.{least, leastPriority}
-use Rattle.model.specs.Statements.{TestExact}
 use Rattle.arbitration.proofs.Tree.{least-le, least-below}
 use Rattle.lists.proofs.Bools.{and-in, and-l, and-r}
 use Rattle.lists.proofs.Exact.{Exact, _and_, not-exact, leb-exact, eqb-exact, refuted-exact, implies-exact, from-exact, every-exact}
@@ -178,6 +179,9 @@ unfolding wellFormed
 wellFormed-in s w =
     and-in (and-in (consistent-exact s .1 (w .consistent)) (clean-exact s .1 (w .clean)))
     (quiet-exact s (w .consistent .some-core) .1 (w .quiet))
+
+pub layers-exact : LayersExact
+layers-exact s = (consistent-exact s, clean-exact s, quiet-exact s)
 
 pub test-exact : TestExact
 test-exact s = (wellFormed-out s, wellFormed-in s)
