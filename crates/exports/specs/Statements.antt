@@ -40,12 +40,15 @@ AllRefusedKeeps =
     ((i : ℕ) → i < (runCall b list answers) .result → getD ((runCall b list answers) .answers) (answerSize * i) 0 ≢ 0) →
     (runCall b list answers) .bytes ≡ b
 
+-- Of the answers lent, the length and what stands behind those written.
+abbrev pub RestKept : List ℕ → RunCall → Type 0
+RestKept answers ran =
+    (length (ran .answers) ≡ length answers) ×
+    (drop (answerSize * ran .result) (ran .answers) ≡ drop (answerSize * ran .result) answers)
+
 -- Whether the list is run or not.
 abbrev pub RunKeepsRest : Type 0
-RunKeepsRest =
-    (b list answers : List ℕ) →
-    let ran = runCall b list answers in
-    (length (ran .answers) ≡ length answers) × (drop (answerSize * ran .result) (ran .answers) ≡ drop (answerSize * ran .result) answers)
+RunKeepsRest = (b list answers : List ℕ) → RestKept answers (runCall b list answers)
 
 -- ---- demand 3
 
