@@ -30,22 +30,22 @@ use Rattle.exports.proofs.Calls.{ranOver, run-fit}
 use Rattle.exports.proofs.Answers.{written, entries-read, cycles-told}
 
 -- a sound state has the arrays' lengths, and stays sound through a list
-sized : (s : Controller) → WellFormed s → Sized s
+pub sized : (s : Controller) → WellFormed s → Sized s
 sized s w = record { sources = w .sources-length; cores = w .cores-length }
 
-run-wellFormed : (s : Controller) (cs : List Command) → WellFormed s → WellFormed (run s cs)
+pub run-wellFormed : (s : Controller) (cs : List Command) → WellFormed s → WellFormed (run s cs)
 unfolding run
 run-wellFormed s [] w = w
 run-wellFormed s (c ∷ cs) w = run-wellFormed ((execute s c) .state) cs (wellFormed-kept s c w)
 
 module _ (n m : ℕ) (R : InRange n m) where
   -- what making writes
-  fresh : (b : List ℕ) → length b ≡ stateSize → (makeCall n m b) .bytes ≡ stateBytes (reset n m)
+  pub fresh : (b : List ℕ) → length b ≡ stateSize → (makeCall n m b) .bytes ≡ stateBytes (reset n m)
   unfolding makeCall
   fresh b h = rw (eq-eqb _ _ h, makes-exactly n m .0 R)
 
   -- the theorem over every list of commands, from the reset controller
-  reset-strict : (cs : List Command) → PriorityStrict n m (ledger opening (entries (reset n m) cs)) (run (reset n m) cs)
+  pub reset-strict : (cs : List Command) → PriorityStrict n m (ledger opening (entries (reset n m) cs)) (run (reset n m) cs)
   reset-strict cs =
       subst (λ (a : Answer). PriorityStrict n m (ledger opening (entries (a .state) cs)) (run (a .state) cs))
       (makes-exactly n m .0 R) (demand-three .0 n m cs R)

@@ -68,7 +68,8 @@ pub extern "C" fn psic_execute(state: &mut [u8], number: u16, at: u16, priority:
 // were not taken (`whole_list_counted`).
 #[no_mangle]
 pub extern "C" fn psic_run(state: &mut [u8], list: &[u8], answers: &mut [u8]) -> u64
-    ensures { λ r. ⌜ DoesRun r (now (state .exit)) (now (answers .exit)) (runCall (now (state .entry)) (now (list .entry)) (now (answers .entry))) ⌝ }
+    ensures { λ r. ⌜ DoesRun r (now (state .exit)) (now (answers .exit))
+        (runCall (now (state .entry)) (now (list .entry)) (now (answers .entry))) ⌝ }
 {
     if list.len() % 5 != 0 {
         return NO_COUNT;
