@@ -30,7 +30,7 @@ fn main() {
         match encoding::command(kind, at, priority) {
             Decoded::Known(c) => {
                 print::label(script::SCRIPT[row]);
-                print::command(kind, at, priority);
+                print::command(c);
                 let a = commands::execute(s, c);
                 print::answer(a);
                 s = a.state;

@@ -1,6 +1,7 @@
 // What a person reads: a command, its answer, and the state after it.
 use model::Answer;
 use model::CORES;
+use model::Command;
 use model::Controller;
 use model::Core;
 use model::Source;
@@ -13,26 +14,46 @@ fn number(x: u16) {
     io::print_decimal(1, x as u64);
 }
 
-// The command of a number 0 to 7, with its arguments.
-pub fn command(kind: u16, at: u16, priority: u16) {
-    match kind {
-        0 => text(b"set source "),
-        1 => text(b"mask "),
-        2 => text(b"unmask "),
-        3 => text(b"set core "),
-        4 => text(b"trigger "),
-        5 => text(b"claim on core "),
-        6 => text(b"redeliver "),
-        _ => text(b"complete "),
-    }
+fn setting(at: u16, priority: u16) {
     number(at);
-    if kind == 0 {
-        text(b" to ");
-        number(priority);
-    }
-    if kind == 3 {
-        text(b" to ");
-        number(priority);
+    text(b" to ");
+    number(priority);
+}
+
+pub fn command(c: Command) {
+    match c {
+        Command::SetSourcePriority(id, priority) => {
+            text(b"set source ");
+            setting(id.0, priority);
+        }
+        Command::Mask(id) => {
+            text(b"mask ");
+            number(id.0);
+        }
+        Command::Unmask(id) => {
+            text(b"unmask ");
+            number(id.0);
+        }
+        Command::SetCorePriority(core, priority) => {
+            text(b"set core ");
+            setting(core.0, priority);
+        }
+        Command::Trigger(id) => {
+            text(b"trigger ");
+            number(id.0);
+        }
+        Command::Claim(core) => {
+            text(b"claim on core ");
+            number(core.0);
+        }
+        Command::Redeliver(id) => {
+            text(b"redeliver ");
+            number(id.0);
+        }
+        Command::Complete(id) => {
+            text(b"complete ");
+            number(id.0);
+        }
     }
 }
 

@@ -25,7 +25,7 @@ number-small (Redeliver id) = omega arith
 number-small (Complete id) = omega arith
 
 -- a command is named by its numbers
-named : (c : Command) → commandOf (numberOf c) (targetOf c) (levelOf c) ≡ Known c
+pub named : (c : Command) → commandOf (numberOf c) (targetOf c) (levelOf c) ≡ Known c
 unfolding commandOf
 named (SetSourcePriority id p) = refl
 named (Mask id) = refl

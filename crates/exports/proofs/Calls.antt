@@ -18,12 +18,8 @@ use Rattle.model.specs.declared.Answer.{Answer}
 use Rattle.model.specs.Commands.{execute, make, run}
 use Rattle.model.specs.Ledger.{answersTo}
 use Rattle.model.specs.Encoding.{commandOf}
-use Rattle.model.specs.Bytes.{stateSize, stateBytes, stateFrom, isState, commandsIn, answerBytes, unreadable, packed, Call, callOf, makeCall, executedOn, executeCall, noCount, fitsRun, RunCall, runCallOf, runCall}
+use Rattle.model.specs.Bytes.{stateSize, stateBytes, stateFrom, isState, commandsIn, answerBytes, unreadable, packed, Call, callOf, Does, makeCall, executedOn, executeCall, DoesRun, noCount, fitsRun, RunCall, runCallOf, runCall}
 use Rattle.lists.specs.Rows.{joined}
-
--- an answer r and bytes b are those of a call
-abbrev Does : ℕ → List ℕ → Call → Type 0
-Does r b call = (r ≡ call .result) × (b ≡ call .bytes)
 
 done : (r : ℕ) (b : List ℕ) (call : Call) → call ≡ callOf r b → Does r b call
 done r b call e = (sym (ap (λ (x : Call). x .result) e), sym (ap (λ (x : Call). x .bytes) e))
@@ -73,9 +69,6 @@ module _ (number at p : ℕ) (b : List ℕ) where
         answered r b′ a (executeCall number at p b) (executed ∙ rw (f, ← same)) er e′
 
 -- ---- a list of commands
-
-abbrev pub DoesRun : ℕ → List ℕ → List ℕ → RunCall → Type 0
-DoesRun r b answers call = (r ≡ call .result) × (b ≡ call .bytes) × (answers ≡ call .answers)
 
 abbrev pub answersFrom : Controller → List Command → List ℕ
 answersFrom s cs = joined answerBytes (answersTo s cs)

@@ -1,7 +1,6 @@
 -- The commands in a row of bytes, read at a place i: one command and those behind it, or none. Assumes nothing.
 --   commandAt, command-read    what the five bytes at i name, and the same from its parts
---   commands-more              they name a command
---   commands-bad               they name none
+--   commands-there             the commands from i on: the one that the bytes name before the rest, or none
 --   commands-end               no byte is left
 --   commands-length            a command takes five bytes
 use Prim.Native.Nat.{ℕ, suc, _+_, _*_, _<_, _≤_}
@@ -56,16 +55,11 @@ module _ (l : List ℕ) (i : ℕ) where
         drop-cons l (suc (suc (suc (suc i)))) 0,
       ))
 
-  commands-there : i + commandSize ≤ length l → commandsIn (drop i l) ≡ orEnd (commandAt l i) (commandsIn (drop (i + commandSize) l))
+  pub commands-there :
+      (d : Decoded) → i + commandSize ≤ length l → commandAt l i ≡ d →
+      commandsIn (drop i l) ≡ orEnd d (commandsIn (drop (i + commandSize) l))
   unfolding commandsIn
-  commands-there h = ap commandsIn (five h)
-
-  pub commands-more :
-      (c : Command) → i + commandSize ≤ length l → commandAt l i ≡ Known c → commandsIn (drop i l) ≡ c ∷ commandsIn (drop (i + commandSize) l)
-  commands-more c h e = commands-there h ∙ ap (λ (d : Decoded). orEnd d (commandsIn (drop (i + commandSize) l))) e
-
-  pub commands-bad : i + commandSize ≤ length l → commandAt l i ≡ Unknown → commandsIn (drop i l) ≡ []
-  commands-bad h e = commands-there h ∙ ap (λ (d : Decoded). orEnd d (commandsIn (drop (i + commandSize) l))) e
+  commands-there d h e = ap commandsIn (five h) ∙ ap (λ (x : Decoded). orEnd x (commandsIn (drop (i + commandSize) l))) e
 
   pub commands-end : length l ≤ i → commandsIn (drop i l) ≡ []
   unfolding commandsIn

@@ -6,6 +6,7 @@
 --   Answers     what stands in the answers' buffer after a run
 --   Refusals    what is refused leaves the lent bytes as they were
 --   Strict      demand 3 of a list run from a fresh controller's bytes
+--   Calling     what a command's call tells, and demand 3 of commands called one by one
 pub mod Commands
 pub mod Buffers
 pub mod Calls
@@ -13,3 +14,4 @@ pub mod Running
 pub mod Answers
 pub mod Refusals
 pub mod Strict
+pub mod Calling

@@ -17,7 +17,7 @@ use Rattle.model.specs.Encoding.{commandOf}
 use Rattle.model.specs.Bytes.{stateSize, stateBytes, stateFrom, isState, commandsIn, answerSize, numberIn, Call, makeCall, executedOn, executeCall, noCount, roomFor, fitsRun}
 use Rattle.encoding.specs.Statements.{AreBytes}
 use Rattle.encoding.proofs.RoundTrip.{bytes-written-back}
-use Rattle.exports.specs.Statements.{RefusedMakeKeeps, RefusedExecuteKeeps, RefusedRunKeeps, AllRefusedKeeps, RunKeepsRest}
+use Rattle.exports.specs.Statements.{RefusedMakeKeeps, RefusedExecuteKeeps, RefusedRunKeeps, AllRefusedKeeps, RestKept, RunKeepsRest}
 use Rattle.exports.proofs.Commands.{commands-length}
 use Rattle.exports.proofs.Buffers.{room-enough}
 use Rattle.exports.proofs.Calls.{answersFrom, run-by}
@@ -71,19 +71,19 @@ all-refused-keeps b list answers are =
     (λ e h.
     let s = stateFrom b in
     let cs = commandsIn list in
-    let kept = kept-refused s cs (drop (answerSize * length cs) answers) (rw (← written answers s cs (room b list answers e)) h) in
-    ap stateBytes kept ∙ bytes-written-back b are (and-l (isState b) (roomFor list answers) e))
+    let rest = drop (answerSize * length cs) answers in
+    ap stateBytes (kept-refused s cs rest (rw (← written answers s cs (room b list answers e)) h))
+    ∙ bytes-written-back b are (and-l (isState b) (roomFor list answers) e))
     (λ h. refl)
 
 pub run-keeps-rest : RunKeepsRest
 run-keeps-rest b list answers =
-    run-by b list answers
-    (λ ran. (length (ran .answers) ≡ length answers) × (drop (answerSize * ran .result) (ran .answers) ≡ drop (answerSize * ran .result) answers))
+    run-by b list answers (RestKept answers)
     (λ e.
-    let s = stateFrom b in
-    let cs = commandsIn list in
-    let size = answerSize * length cs in (
-      length-sets answers 0 (answersFrom s cs),
-      ap (drop size) (written answers s cs (room b list answers e)) ∙ drop-at (answersFrom s cs) (drop size answers) size (answers-length s cs),
+    let v = answersFrom (stateFrom b) (commandsIn list) in
+    let size = answerSize * length (commandsIn list) in (
+      length-sets answers 0 v,
+      ap (drop size) (written answers (stateFrom b) (commandsIn list) (room b list answers e))
+          ∙ drop-at v (drop size answers) size (answers-length (stateFrom b) (commandsIn list)),
     ))
     (refl, refl)

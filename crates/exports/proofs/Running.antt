@@ -18,11 +18,11 @@ use Rattle.model.specs.declared.Decoded.the-variants.{Known}
 use Rattle.model.specs.declared.Answer.{Answer}
 use Rattle.model.specs.Commands.{execute, run}
 use Rattle.model.specs.Ledger.{answersTo}
-use Rattle.model.specs.Bytes.{stateFrom, stateBytes, isState, runCall, commandSize, commandsIn, answerBytes}
+use Rattle.model.specs.Bytes.{stateFrom, stateBytes, isState, DoesRun, runCall, commandSize, commandsIn, answerBytes}
 use Rattle.lists.specs.Rows.{joined}
-use Rattle.exports.proofs.Commands.{commandAt, commands-more}
+use Rattle.exports.proofs.Commands.{commandAt, commands-there}
 use Rattle.exports.proofs.Buffers.{sets-append, fits}
-use Rattle.exports.proofs.Calls.{DoesRun, answersFrom}
+use Rattle.exports.proofs.Calls.{answersFrom}
 
 -- the commands from place i on
 abbrev pub left : List ℕ → ℕ → List Command
@@ -77,7 +77,7 @@ module _ (list answers₀ : List ℕ) (s₀ : Controller) where
   taken-more answers answers′ s i c a t h ec ea e =
       let next : i + commandSize ≤ length list = more-left answers s i t h in
       let rest = left list (i + commandSize) in
-      let commands : left list i ≡ c ∷ rest = commands-more list i c next ec in
+      let commands : left list i ≡ c ∷ rest = commands-there list i (Known c) next ec in
       record {
         within = next;
         whole = t .whole;

@@ -32,17 +32,17 @@ use Rattle.exports.proofs.Calls.{ranOver, run-fit}
 use Rattle.exports.proofs.Answers.{written, entries-read, cycles-told}
 
 -- a sound state has the arrays' lengths, and stays sound through a list
-sized : (s : Controller) → WellFormed s → Sized s
+pub sized : (s : Controller) → WellFormed s → Sized s
 sized s w = record { sources = w .consistent .sources-length; cores = w .consistent .cores-length }
 
-run-wellFormed : (s : Controller) (cs : List Command) → WellFormed s → WellFormed (run s cs)
+pub run-wellFormed : (s : Controller) (cs : List Command) → WellFormed s → WellFormed (run s cs)
 unfolding runBy
 run-wellFormed s [] w = w
 run-wellFormed s (c ∷ cs) w = run-wellFormed ((execute s c) .state) cs (wellFormed-kept s c w)
 
 module _ (n m : ℕ) (R : InRange n m) where
   -- what making writes
-  fresh : (b : List ℕ) → length b ≡ stateSize → (makeCall n m b) .bytes ≡ stateBytes (reset n m)
+  pub fresh : (b : List ℕ) → length b ≡ stateSize → (makeCall n m b) .bytes ≡ stateBytes (reset n m)
   unfolding makeCall
   fresh b h = rw (eq-eqb _ _ h, makes-exactly n m .0 R)
 

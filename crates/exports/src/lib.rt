@@ -3,7 +3,7 @@
 // and leave every buffer as it was.
 ghost use Prim.Native.Nat.{_+_, _*_};
 ghost use mathlib.Core.Path.{_≡_};
-ghost use Rattle.model.specs.Bytes.{makeCall, executeCall, runCall};
+ghost use Rattle.model.specs.Bytes.{Does, makeCall, executeCall, DoesRun, runCall};
 use model::Decoded;
 use model::SourceId;
 
@@ -24,7 +24,7 @@ fn packed(number: u8, id: SourceId, cycles: u16) -> u64
 // controller of other sizes (`sizes_swapped`); a buffer longer than a state (`longer_buffer_accepted`).
 #[no_mangle]
 pub extern "C" fn psic_make(n: u16, m: u16, state: &mut [u8]) -> u64
-    ensures { λ r. ⌜ (r ≡ (makeCall n m (now (state .entry))) .result) × (now (state .exit) ≡ (makeCall n m (now (state .entry))) .bytes) ⌝ }
+    ensures { λ r. ⌜ Does r (now (state .exit)) (makeCall n m (now (state .entry))) ⌝ }
 {
     if state.len() != encoding::STATE_SIZE {
         return UNREADABLE;
@@ -44,7 +44,7 @@ pub extern "C" fn psic_make(n: u16, m: u16, state: &mut [u8]) -> u64
 // (`execute_number_dropped`).
 #[no_mangle]
 pub extern "C" fn psic_execute(state: &mut [u8], number: u16, at: u16, priority: u16) -> u64
-    ensures { λ r. ⌜ (r ≡ (executeCall number at priority (now (state .entry))) .result) × (now (state .exit) ≡ (executeCall number at priority (now (state .entry))) .bytes) ⌝ }
+    ensures { λ r. ⌜ Does r (now (state .exit)) (executeCall number at priority (now (state .entry))) ⌝ }
 {
     if !encoding::is_state(state) {
         return UNREADABLE;
@@ -68,7 +68,8 @@ pub extern "C" fn psic_execute(state: &mut [u8], number: u16, at: u16, priority:
 // were not taken (`whole_list_counted`).
 #[no_mangle]
 pub extern "C" fn psic_run(state: &mut [u8], list: &[u8], answers: &mut [u8]) -> u64
-    ensures { λ r. ⌜ (r ≡ (runCall (now (state .entry)) (now (list .entry)) (now (answers .entry))) .result) × (now (state .exit) ≡ (runCall (now (state .entry)) (now (list .entry)) (now (answers .entry))) .bytes) × (now (answers .exit) ≡ (runCall (now (state .entry)) (now (list .entry)) (now (answers .entry))) .answers) ⌝ }
+    ensures { λ r. ⌜ DoesRun r (now (state .exit)) (now (answers .exit))
+        (runCall (now (state .entry)) (now (list .entry)) (now (answers .entry))) ⌝ }
 {
     if list.len() % 5 != 0 {
         return NO_COUNT;

@@ -20,7 +20,7 @@ state-cases = (refl, refl)
 
 pub command-cases : CommandCases
 unfolding commandOf commandsIn
-command-cases = (refl, refl, refl, refl, refl)
+command-cases = (refl, refl, refl, refl, refl, refl, refl)
 
 pub answer-cases : AnswerCases
 unfolding entriesIn

@@ -10,6 +10,7 @@
 --   packed a            an answer as one number; numberIn, idIn, cyclesIn are its parts
 --   makeCall, executeCall, runCall    what the exported calls answer and write
 use Prim.Native.Nat.{ℕ, zero, suc, _+_, _*_, _/_, _%_}
+use mathlib.Core.Path.{_≡_}
 use mathlib.Core.List.{List, [], _∷_, _++_}
 use mathlib.Core.Bool.{Bool, _&&_, cond}
 use lib.ListN.{length, getD, drop}
@@ -135,8 +136,8 @@ unfoldable pub entriesIn : List Command → List ℕ → List Entry
 entriesIn [] b = []
 entriesIn (c ∷ cs) b = entryWith c (getD b 0 0) (wordAt b 1) ∷ entriesIn cs (drop answerSize b)
 
--- ---- the calls. `unreadable` is answered, and nothing is written, where bytes encode no state, a command's number is above 7, or a
--- state's buffer is of another length.
+-- ---- the calls. `unreadable` is answered, and nothing is written, where bytes encode no state, a state's buffer is of another length, or
+-- a command's number is above 7; for a list `noCount`, where it has no whole commands or the answers no room.
 
 abbrev pub unreadable : ℕ
 unreadable = 255
@@ -163,6 +164,10 @@ pub record Call : Type 0 where
 abbrev pub callOf : ℕ → List ℕ → Call
 callOf result bytes = record { result = result; bytes = bytes }
 
+-- A call answered the number r, and the host's state bytes then are b.
+abbrev pub Does : ℕ → List ℕ → Call → Type 0
+Does r b call = (r ≡ call .result) × (b ≡ call .bytes)
+
 -- A fresh controller's bytes. Sizes out of range are refused as by value, and the bytes lent stay as they were.
 unfoldable pub makeCall : ℕ → ℕ → List ℕ → Call
 makeCall n m b =
@@ -186,6 +191,9 @@ pub record RunCall : Type 0 where
 
 abbrev pub runCallOf : ℕ → List ℕ → List ℕ → RunCall
 runCallOf result bytes answers = record { result = result; bytes = bytes; answers = answers }
+
+abbrev pub DoesRun : ℕ → List ℕ → List ℕ → RunCall → Type 0
+DoesRun r b answers call = (r ≡ call .result) × (b ≡ call .bytes) × (answers ≡ call .answers)
 
 -- What stands for `unreadable` where the answer is a count.
 abbrev pub noCount : ℕ

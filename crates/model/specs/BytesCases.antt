@@ -42,9 +42,11 @@ StateCases =
 abbrev pub CommandCases : Type 0
 CommandCases =
     (commandsIn (4 ∷ 4 ∷ 0 ∷ 0 ∷ 0 ∷ []) ≡ Trigger (sourceId 4) ∷ []) ×
-    (commandsIn (0 ∷ 44 ∷ 1 ∷ 255 ∷ 1 ∷ 3 ∷ 2 ∷ 0 ∷ 9 ∷ 0 ∷ []) ≡ SetSourcePriority (sourceId 300) 511 ∷ SetCorePriority (coreId 2) 9 ∷ []) ×
+    (commandsIn (0 ∷ 44 ∷ 1 ∷ 255 ∷ 1 ∷ []) ≡ SetSourcePriority (sourceId 300) 511 ∷ []) ×
+    (commandsIn (3 ∷ 2 ∷ 0 ∷ 9 ∷ 0 ∷ []) ≡ SetCorePriority (coreId 2) 9 ∷ []) ×
     (commandsIn (1 ∷ 1 ∷ 0 ∷ 0 ∷ 0 ∷ 2 ∷ 2 ∷ 0 ∷ 0 ∷ 0 ∷ []) ≡ Mask (sourceId 1) ∷ Unmask (sourceId 2) ∷ []) ×
-    (commandsIn (5 ∷ 3 ∷ 0 ∷ 0 ∷ 0 ∷ 6 ∷ 4 ∷ 0 ∷ 0 ∷ 0 ∷ 7 ∷ 5 ∷ 0 ∷ 0 ∷ 0 ∷ []) ≡ Claim (coreId 3) ∷ Redeliver (sourceId 4) ∷ Complete (sourceId 5) ∷ []) ×
+    (commandsIn (5 ∷ 3 ∷ 0 ∷ 0 ∷ 0 ∷ 6 ∷ 4 ∷ 0 ∷ 0 ∷ 0 ∷ []) ≡ Claim (coreId 3) ∷ Redeliver (sourceId 4) ∷ []) ×
+    (commandsIn (7 ∷ 5 ∷ 0 ∷ 0 ∷ 0 ∷ []) ≡ Complete (sourceId 5) ∷ []) ×
     (commandsIn (4 ∷ 1 ∷ 0 ∷ 0 ∷ 0 ∷ 8 ∷ 1 ∷ 0 ∷ 0 ∷ 0 ∷ 4 ∷ 2 ∷ 0 ∷ 0 ∷ 0 ∷ []) ≡ Trigger (sourceId 1) ∷ [])
 
 -- an answer's number, id and cycles

@@ -9,8 +9,9 @@ use mathlib.Core.List.{[]}
 use mathlib.Core.Bool.{true}
 use mathlib.Core.Logic.{⊎-elim}
 use borrow.Author.Tests.{not-true, not-false}
+use Rattle.model.specs.declared.Decoded.the-variants.{Unknown}
 use Rattle.model.specs.Bytes.{isState}
-use Rattle.exports.proofs.Commands.{command-read, commands-bad, commands-end}
+use Rattle.exports.proofs.Commands.{command-read, commands-there, commands-end}
 use Rattle.exports.proofs.Buffers.{state-size, no-state, not-whole, no-room}
 use Rattle.exports.proofs.Calls.{run-refused}
 use Rattle.exports.proofs.Running.{left, Taken, taken-none, more-left, taken-more, taken-all}
@@ -40,8 +41,9 @@ none-left c =
     let whole = more-left (a .list .now) (a .answers .now) (c .before .before .state-from .result) (l .answers) (l .s) (l .i) (l .inv) in
     ⊎-elim (λ w. commands-end (a .list .now) (l .i) (w .left))
     (λ w.
-    let read = command-read (a .list .now) (l .i) (w .2 .result) (w .3 .result) (w .4 .result) (w .2 .ensures) (w .3 .ensures) (w .4 .ensures) in
-    commands-bad (a .list .now) (l .i) (whole (w .0 .taken)) (read ∙ w .6 .given .1))
+    let read = command-read (a .list .now) (l .i) (w .2 .result) (w .3 .result) (w .4 .result)
+    (w .2 .ensures) (w .3 .ensures) (w .4 .ensures) in
+    commands-there (a .list .now) (l .i) Unknown (whole (w .0 .taken)) (read ∙ w .6 .given .1))
     (c .loop-test .came)
 
 returns : tie.Need-returns Inv-loop μ-loop
