@@ -2,6 +2,20 @@
 //!
 //! Any bytes may be handed in. Bytes that encode no state and buffers that don't fit are refused by [`Refusal::Unreadable`], and every
 //! refusal leaves all buffers as they were.
+//!
+//! ```
+//! use psic::{bytes, Answer, Command, SourceId, ANSWER_SIZE, STATE_SIZE};
+//!
+//! # fn main() -> Result<(), psic::Refusal> {
+//! let mut state = [0; STATE_SIZE];
+//! bytes::make(32, 2, &mut state)?;
+//! let list = [Command::Unmask(SourceId(4)), Command::Trigger(SourceId(4))].map(Command::to_bytes);
+//! let mut answers = [[0; ANSWER_SIZE]; 2];
+//! assert_eq!(bytes::run(&mut state, list.as_flattened(), answers.as_flattened_mut())?, 2);
+//! assert_eq!(Answer::from_bytes(answers[1])?.cycles, 1);
+//! # Ok(())
+//! # }
+//! ```
 
 use crate::answer::{Answer, Refusal};
 use crate::command::Command;

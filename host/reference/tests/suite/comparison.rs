@@ -71,9 +71,9 @@ fn every_field_of_the_state_is_compared() {
     }
 }
 
-/// A field that the message doesn't list is told all the same.
+/// States that differ in no field that the message lists are told all the same, and the message says so.
 #[test]
-fn states_are_compared_as_wholes() {
+fn difference_in_an_unlisted_field_is_said() {
     let history = History {
         seed: 0,
         n: 2,
