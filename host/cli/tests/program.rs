@@ -198,11 +198,7 @@ fn the_words_are_those_of_the_table_of_runs() {
         .collect();
     let mut compared = 0;
     for block in table.split("\nstart: ").skip(1) {
-        let rows: Vec<&str> = block
-            .lines()
-            .skip(1)
-            .filter(|row| is_command(row))
-            .collect();
+        let rows: Vec<&str> = block.lines().skip(1).filter(is_command).collect();
         let rows: Vec<&str> = rows.into_iter().map(without_mark).collect();
         let commands: Vec<&str> = rows
             .iter()
