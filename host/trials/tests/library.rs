@@ -203,6 +203,20 @@ fn a_number_above_7_is_no_command() {
     }
 }
 
+/// What lies behind the answers of a list stays, and so does the state if every command is refused.
+#[test]
+fn a_list_of_refused_commands_changes_nothing_but_their_answers() {
+    let given = bytes_of(&Controller::reset(3, 2));
+    let mut state = given.clone();
+    let list = [4, 4, 0, 0, 0, 5, 0, 0, 0, 0, 7, 1, 0, 0, 0];
+    let mut answers = vec![9; 3 * ANSWER_SIZE + 4];
+    assert_eq!(bytes::run(&mut state, &list, &mut answers), Ok(3));
+    let (written, rest) = answers.split_at(3 * ANSWER_SIZE);
+    assert_eq!(written, [4, 0, 0, 0, 0, 7, 0, 0, 0, 0, 8, 0, 0, 0, 0]);
+    assert_eq!(rest, [9; 4]);
+    assert_eq!(state, given);
+}
+
 #[test]
 fn a_bad_number_ends_a_list_and_what_ran_before_it_stands() {
     let mut state = bytes_of(&Controller::reset(3, 2));
