@@ -205,7 +205,7 @@ fn a_number_above_7_is_no_command() {
 
 /// What lies behind the answers of a list stays, and so does the state if every command is refused.
 #[test]
-fn a_list_of_refused_commands_changes_nothing_but_their_answers() {
+fn a_refused_list_leaves_the_state_and_the_rest_of_the_answers() {
     let given = bytes_of(&Controller::reset(3, 2));
     let mut state = given.clone();
     let list = [4, 4, 0, 0, 0, 5, 0, 0, 0, 0, 7, 1, 0, 0, 0];
