@@ -29,7 +29,16 @@ pub use lent::{claim_in_place, highest_in};
 pub use records::{Core, CoreId, MessageBox, Owner, Source, SourceId, MAX_CORES, MAX_SOURCES};
 
 /// The version of this package as a number: ten thousand times the major number, a hundred times the minor one, and the patch.
-pub const VERSION: u32 = 10000;
+pub const VERSION: u32 = 10000 * number(env!("CARGO_PKG_VERSION_MAJOR"))
+    + 100 * number(env!("CARGO_PKG_VERSION_MINOR"))
+    + number(env!("CARGO_PKG_VERSION_PATCH"));
+
+const fn number(digits: &str) -> u32 {
+    match u32::from_str_radix(digits, 10) {
+        Ok(number) => number,
+        Err(_) => panic!("a version has three numbers"),
+    }
+}
 
 /// The version that libpsic.a answers, to be held against [`VERSION`].
 pub fn library_version() -> u32 {
