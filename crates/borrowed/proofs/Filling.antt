@@ -2,30 +2,33 @@
 --   Filled l       how far the copying is, and the row: its first i keys are the ranks of the first i records
 --   Further        the order in which the loop falls: fewer records left
 use Prim.Native.Nat.{ℕ, _+_, _-_, _<_, _≤_}
-use mathlib.Core.Path.{_≡_, refl, _∙_}
+use mathlib.Core.Path.{_≡_, refl, ap, _∙_}
 use mathlib.Core.List.{List}
-use mathlib.Core.Bool.{Bool, true, false, cond}
 use mathlib.Core.WellFounded.{WellFounded, InvImage·wf}
 use native.Mathlib.Omega.{arith}
+use native.Mathlib.Decide.{decLe}
 use lib.ListN.{length, getD, set, replicate, length-set, length-replicate}
 use lib.Seq.{getD-set-same, getD-set-other}
-use lib.Dec.{leb}
 use lib.WfN.{Nat·lt-wfRel}
 use borrow.Author.Count.{below-more}
-use borrow.Author.Tests.{leb-true}
 use Rattle.model.specs.declared.Source.{Source}
 use Rattle.model.specs.Records.{maxSources, noSource}
 use Rattle.model.specs.Arbitration.{rank}
+use Rattle.borrowed.specs.declared.Extent.{Extent}
 use Rattle.borrowed.specs.Keys.{readOf, RanksOf}
+use Rattle.borrowed.proofs.Searches.{extent-whole, extent-none}
 
 -- what is read lies inside the list, and inside the row
 pub read-inside : (len : ℕ) → (readOf len ≤ len) × (readOf len ≤ maxSources)
-unfolding readOf
-read-inside len = go (leb len maxSources) (λ e. leb-true len maxSources e)
+read-inside len = go (decLe len maxSources)
   where
-    go : (t : Bool) → (t ≡ true → len ≤ maxSources) → (cond t len 0 ≤ len) × (cond t len 0 ≤ maxSources)
-    go true h = (omega arith, h refl)
-    go false h = (omega arith, omega arith)
+    go : Dec (len ≤ maxSources) → (readOf len ≤ len) × (readOf len ≤ maxSources)
+    go (yes h) =
+        let e : len ≡ readOf len = ap (λ (x : Extent). x .read) (extent-whole len h) in
+        (omega arith, omega arith)
+    go (no h) =
+        let e : 0 ≡ readOf len = ap (λ (x : Extent). x .read) (extent-none len (omega arith)) in
+        (omega arith, omega arith)
 
 -- the row as it starts. Shut, so that no comparison writes out its 128 keys
 pub zeros : List ℕ
@@ -56,14 +59,15 @@ module _ (l : List Source) where
   pub further-wf : WellFounded Further
   further-wf = InvImage·wf left (Nat·lt-wfRel .wf)
 
-  abbrev pub none-filled : Filled l
-  none-filled =
+  -- before the first turn
+  abbrev pub none-filled : (i : ℕ) → i ≡ 0 → Filled l
+  none-filled i e =
       record {
-        i = 0;
+        i = i;
         keys = zeros;
         within = omega arith;
         full = zeros-full;
-        ranks = λ i h. absurd (omega arith);
+        ranks = λ j h. absurd (omega arith);
       }
 
   -- the next record's rank is put in

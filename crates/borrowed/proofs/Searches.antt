@@ -1,9 +1,10 @@
 -- The search over a list, from the ranks of its records. Assumes nothing.
 use Prim.Native.Nat.{ℕ, suc, _+_, _<_, _≤_}
-use mathlib.Core.Path.{_≡_, refl, sym, ap, _∙_}
+use mathlib.Core.Path.{_≡_, refl, sym, ap, ap₂, _∙_}
 use mathlib.Core.List.{List, [], _∷_}
 use mathlib.Core.Bool.{Bool, true, false, cond}
 use native.Mathlib.Omega.{arith}
+use native.Mathlib.Decide.{decLe}
 use native.Mathlib.Numerals.{add-one}
 use lib.ListN.{length, getD}
 use borrow.Author.Tests.{le-leb, lt-leb}
@@ -18,17 +19,18 @@ use Rattle.arbitration.specs.Keys.{HighestKey}
 use Rattle.arbitration.proofs.Tree.{tree-is-walk}
 use Rattle.arbitration.proofs.Keys.{highest-inside}
 use Rattle.arbitration.proofs.ByKeys.{highest-by-keys}
-use Rattle.borrowed.specs.Keys.{readOf, RanksOf, PositionByKeys, FoundByKeys}
+use Rattle.borrowed.specs.declared.Extent.{Extent}
+use Rattle.borrowed.specs.Keys.{extent, extentOf, RanksOf, PositionByKeys, FoundByKeys}
 
--- ---- how many are read
+-- ---- what the length says
 
-pub read-all : (len : ℕ) → len ≤ maxSources → len ≡ readOf len
-unfolding readOf
-read-all len h = rw (le-leb len maxSources h)
+pub extent-whole : (len : ℕ) → len ≤ maxSources → extent 0 len ≡ extentOf len
+unfolding extentOf
+extent-whole len h = rw (le-leb len maxSources h)
 
-pub read-none : (len : ℕ) → maxSources < len → 0 ≡ readOf len
-unfolding readOf
-read-none len h = rw (lt-leb len maxSources h)
+pub extent-none : (len : ℕ) → maxSources < len → extent badSize 0 ≡ extentOf len
+unfolding extentOf
+extent-none len h = rw (lt-leb len maxSources h)
 
 -- ---- the position
 
@@ -73,15 +75,31 @@ module _ (ks : List ℕ) (n at : ℕ) (some : 1 ≤ n) (e : HighestKey ks 0 n at
 
 -- ---- the answer
 
-pub too-long : (ks : List ℕ) (len : ℕ) → maxSources < len → FoundByKeys ks len (found badSize 0)
+found-whole : (l : List Source) → length l ≤ maxSources → found 0 (highestId l (length l)) ≡ foundIn l
 unfolding foundIn
-too-long ks len h l e same = rw (lt-leb (length l) maxSources (omega arith))
+found-whole l h = rw (le-leb (length l) maxSources h)
 
-pub searched : (ks : List ℕ) (len at : ℕ) → len ≤ maxSources → PositionByKeys ks len at → FoundByKeys ks len (found 0 at)
+found-none : (l : List Source) → maxSources < length l → found badSize 0 ≡ foundIn l
 unfolding foundIn
-searched ks len at h p l e same =
-    rw (le-leb (length l) maxSources (omega arith))
-    (ap (λ (k : ℕ). found 0 k) (p l e (rw (← read-all len h) at same) ∙ ap (highestId l) (sym e)))
+found-none l h = rw (lt-leb (length l) maxSources h)
+
+-- none are read, so the position is that of an empty list
+none-read : (ks : List ℕ) (n at : ℕ) → n ≡ 0 → PositionByKeys ks n at → at ≡ 0
+unfolding tree highest highestId
+none-read ks n at e p = p [] (sym e) (λ i h. absurd (omega arith)) ∙ ap (highestId []) e
+
+pub searched : (ks : List ℕ) (e : Extent) (at : ℕ) → PositionByKeys ks (e .read) at → FoundByKeys ks e (found (e .number) at)
+searched ks e at p l is same = go (decLe (length l) maxSources)
+  where
+    go : Dec (length l ≤ maxSources) → found (e .number) at ≡ foundIn l
+    go (yes h) =
+        let q : e ≡ extent 0 (length l) = is ∙ sym (extent-whole (length l) h) in
+        let n : e .read ≡ length l = ap (λ (x : Extent). x .read) q in
+        ap₂ found (ap (λ (x : Extent). x .number) q) (p l (sym n) same ∙ ap (highestId l) n) ∙ found-whole l h
+    go (no h) =
+        let q : e ≡ extent badSize 0 = is ∙ sym (extent-none (length l) (omega arith)) in
+        ap₂ found (ap (λ (x : Extent). x .number) q) (none-read ks (e .read) at (ap (λ (x : Extent). x .read) q) p) ∙
+        found-none l (omega arith)
 
 -- ---- the plain walk
 

@@ -3,7 +3,7 @@ ghost use Prim.Native.Nat.{_≤_};
 ghost use mathlib.Core.Path.{_≡_};
 ghost use Rattle.model.specs.Records.{maxSources, taken, claimedAs};
 ghost use Rattle.model.specs.Borrowed.{claimable as claimableCore, takenFrom, foundIn};
-ghost use Rattle.borrowed.specs.Keys.{readOf, PositionByKeys, FoundByKeys};
+ghost use Rattle.borrowed.specs.Keys.{extentOf, PositionByKeys, FoundByKeys};
 use model::Claimed;
 use model::Core;
 use model::Found;
@@ -90,12 +90,28 @@ pub extern "C" fn psic_claim_in_place(c: &mut Core) -> Claimed
 
 // ---- the search over a lent list
 
-// How many records of a list are read: none of one that is too long.
-// Rules out: a list of 128 left unread (`list_of_128_unread`).
-fn read_of(len: usize) -> usize
-    ensures { λ r. ⌜ r ≡ readOf len ⌝ }
+// What the length of a list says: the number that is answered, and how many of its records are read.
+struct Extent {
+    number: u8,
+    read: usize,
+}
+
+// A list that is too long is refused, and none of its records is read.
+// Rules out: a list of 128 refused (`length_128_refused`); a longer one refused by another number (`too_long_refused_by_one`); a list
+// left unread (`list_unread`).
+fn extent_of(len: usize) -> Extent
+    ensures { λ r. ⌜ r ≡ extentOf len ⌝ }
 {
-    if len <= SOURCES { len } else { 0 }
+    if len > SOURCES {
+        return Extent {
+            number: TOO_LONG,
+            read: 0,
+        };
+    }
+    Extent {
+        number: 0,
+        read: len,
+    }
 }
 
 // The position plus one of the first highest of n keys, 0 if it is 0: rank 0 is no candidate.
@@ -115,37 +131,32 @@ fn position(keys: &[u32; SOURCES], n: usize) -> u16
     at as u16 + 1
 }
 
-// The answer for a list of len records, from their ranks.
-// Rules out: a list of 128 refused (`length_128_refused`); a longer one refused by another number (`too_long_refused_by_one`).
-fn search(keys: &[u32; SOURCES], len: usize) -> Found
-    ensures { λ r. ⌜ FoundByKeys (now (keys .entry)) len r ⌝ }
+// The answer for a list of that extent, from the ranks of what is read.
+fn search(keys: &[u32; SOURCES], e: Extent) -> Found
+    requires { ⌜ e .read ≤ maxSources ⌝ }
+    ensures { λ r. ⌜ FoundByKeys (now (keys .entry)) e r ⌝ }
 {
-    if len > SOURCES {
-        return Found {
-            number: TOO_LONG,
-            position: 0,
-        };
-    }
-    let at = position(keys, len);
+    let at = position(keys, e.read);
     Found {
-        number: 0,
+        number: e.number,
         position: at,
     }
 }
 
 // The search over a list that the host lends: the ranks are copied out, and the comparator tree runs over them. Whatever the records
 // hold: the list's order decides a tie.
+// Rules out: the first record left uncopied (`first_record_uncopied`), and what the functions above rule out.
 #[no_mangle]
 pub extern "C" fn psic_highest_in(list: &[Source]) -> Found
     ensures { λ r. ⌜ r ≡ foundIn (now (list .entry)) ⌝ }
 {
     let len = list.len();
-    let n = read_of(len);
+    let e = extent_of(len);
     let mut keys = [0; SOURCES];
     let mut i = 0;
-    while i < n {
+    while i < e.read {
         keys[i] = records::rank(list[i]);
         i += 1;
     }
-    search(&keys, len)
+    search(&keys, e)
 }

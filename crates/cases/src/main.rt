@@ -4,6 +4,7 @@ mod script;
 
 use model::Answer;
 use model::Controller;
+use model::Decoded;
 use model::SourceId;
 
 // The table's start state, by the commands that set it up.
@@ -55,28 +56,32 @@ fn main() {
         let kind = row[1];
         let at = row[2];
         let priority = row[3];
-        if kind < 8 {
-            print::label(row[0]);
-            print::command(kind, at, priority);
-            let a = commands::execute(s, batch::command(kind, at, priority));
-            print::answer(a);
-            if 0 < row[0] {
-                let wanted = as_wanted(a, row);
-                print::verdict(wanted);
-                marked = one_more(marked);
-                if wanted {
-                    good = one_more(good);
+        match encoding::command(kind, at, priority) {
+            Decoded::Known(c) => {
+                print::label(row[0]);
+                print::command(kind, at, priority);
+                let a = commands::execute(s, c);
+                print::answer(a);
+                if 0 < row[0] {
+                    let wanted = as_wanted(a, row);
+                    print::verdict(wanted);
+                    marked = one_more(marked);
+                    if wanted {
+                        good = one_more(good);
+                    }
+                }
+                print::line_end();
+                s = a.state;
+            }
+            Decoded::Unknown => {
+                if kind == script::START {
+                    print::start();
+                    s = start();
+                }
+                if kind == script::MAKE {
+                    print::making(at, priority, commands::make(at, priority));
                 }
             }
-            print::line_end();
-            s = a.state;
-        }
-        if kind == 8 {
-            print::start();
-            s = start();
-        }
-        if kind == 9 {
-            print::making(at, priority, commands::make(at, priority));
         }
         i += 1;
     }

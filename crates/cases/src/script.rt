@@ -1,9 +1,13 @@
 // Document 01's "Table of runs". A row is a command, and for a marked one, T1 to T12, what the table wants of it:
 //   0       the mark, 1 to 12 for T1 to T12, 0 for a step without one
-//   1       the command's number 0 to 7; or 8, go back to the table's start state; or 9, make a controller
+//   1       the command's number 0 to 7; or START, go back to the table's start state; or MAKE, make a controller
 //   2, 3    the id or core, and the priority; of a making, how many sources and cores
 //   4 to 8  wanted: the number, the id, the cycles, the current priorities of core 0 and of core 1
 //   9, 10   wanted: the owner of this request, by its code in `print`
+pub const START: u16 = 8;
+
+pub const MAKE: u16 = 9;
+
 pub const ROWS: usize = 54;
 
 pub const COLUMNS: usize = 11;

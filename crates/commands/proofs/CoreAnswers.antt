@@ -20,6 +20,7 @@ use Rattle.soundness.proofs.Test.{wellFormed-out}
 use Rattle.settling.specs.declared.Retracted.{Retracted}
 use Rattle.settling.specs.Phases.{Consistent, AllDirty}
 use Rattle.settling.specs.Runs.{AfterRetractions, AfterDeliveries}
+use Rattle.settling.proofs.Determined.{after-settles, after-counts}
 use Rattle.guarantees.proofs.Checked.{Checked, checked}
 use Rattle.guarantees.proofs.CoreEffects.{setCores, set-allDirty}
 use Rattle.guarantees.proofs.Effects.{wellFormed-consistent, effect-consistent}
@@ -42,7 +43,7 @@ retracted-settled s t first then =
     let f : ℕ = 2 * s .m - t .cycles in
     let all : t .cycles + f ≡ 2 * s .m = omega arith in
     then f (omega arith) ∙
-    ap₂ (λ (x : Controller) (y : ℕ). answer x 0 0 y) (sym (first .settles f)) (sym (first .counts f)) ∙
+    ap₂ (λ (x : Controller) (y : ℕ). answer x 0 0 y) (sym (after-settles first f)) (sym (after-counts first f)) ∙
     ap (λ (g : ℕ). answer (settle g s) 0 0 (cyclesOf g s)) all
 
 module _ (s : Controller) (k : CoreId) (p : ℕ) (sound : wellFormed s ≡ true) (passes : refusalOf s (SetCorePriority k p) ≡ 0) {l : List Core} (is-set : l ≡ setCores s (k .0) p) where

@@ -6,6 +6,7 @@
 --   Rows         records of one length in a row
 --   Octets       that bytes are below 256, and what is read from such
 --   RoundTrip    a state there and back
+--   Commands     a list of commands there and back, and an answer in one number
 pub mod Flags
 pub mod Reading
 pub mod Writing
@@ -13,3 +14,4 @@ pub mod Records
 pub mod Rows
 pub mod Octets
 pub mod RoundTrip
+pub mod Commands

@@ -17,16 +17,16 @@ use Rattle.encoding.proofs.Reading.{sourceOf, coreOf}
 use Rattle.encoding.proofs.Rows.{length-tabulated, getD-tabulated}
 
 -- each element is a byte
-data Octets : List ℕ → Type 0 where
+pub data Octets : List ℕ → Type 0 where
   none : Octets []
   next : {x : ℕ} {l : List ℕ} → x < 256 → Octets l → Octets (x ∷ l)
 
-are-bytes : {l : List ℕ} → Octets l → AreBytes l
+pub are-bytes : {l : List ℕ} → Octets l → AreBytes l
 are-bytes none i h = absurd (not-suc-le-zero h)
 are-bytes (next p o) zero h = p
 are-bytes (next p o) (suc i) h = are-bytes o i (le-of-suc-le-suc h)
 
-octets-append : {l k : List ℕ} → Octets l → Octets k → Octets (l ++ k)
+pub octets-append : {l k : List ℕ} → Octets l → Octets k → Octets (l ++ k)
 octets-append none q = q
 octets-append (next p o) q = next p (octets-append o q)
 
@@ -36,7 +36,7 @@ unfolding joined
 octets-joined f d [] h = none
 octets-joined f d (x ∷ l) h = octets-append (h zero (omega arith)) (octets-joined f d l (λ i g. h (suc i) (omega arith)))
 
-octets-word : {x : ℕ} {l : List ℕ} → IsWord x → Octets l → Octets (x % 256 ∷ x / 256 ∷ l)
+pub octets-word : {x : ℕ} {l : List ℕ} → IsWord x → Octets l → Octets (x % 256 ∷ x / 256 ∷ l)
 octets-word {x} h o = next {x = x % 256} (omega arith) (next {x = x / 256} (omega arith) o)
 
 octets-flag : (x : Bool) {l : List ℕ} → Octets l → Octets (flagByte x ∷ l)

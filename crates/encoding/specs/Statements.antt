@@ -1,18 +1,23 @@
--- What is claimed of a state's bytes, as propositions; their proofs are in proofs/RoundTrip.antt. Assumes nothing.
+-- What is claimed of the bytes of states, commands and answers, as propositions. Assumes nothing.
 --   StateReadBack       a state is read back from its bytes
 --   StateEncoded        a state's bytes encode a state, and are bytes if its numbers fit
 --   BytesWrittenBack    bytes that encode a state are written back
 --   BytesFit            the state read from bytes has the arrays' lengths, and numbers that fit
-use Prim.Native.Nat.{ℕ, _^_, _<_}
+--   CommandsReadBack    every list of commands has bytes that are read back as that list
+--   PackedRead          the parts of an answer are read back from the one number that it is packed into
+use Prim.Native.Nat.{ℕ, _*_, _^_, _<_}
 use mathlib.Core.Path.{_≡_}
-use mathlib.Core.List.{List}
+use mathlib.Core.List.{List, List·Memᴰ}
 use mathlib.Core.Bool.{true}
 use lib.ListN.{length, getD}
 use Rattle.model.specs.declared.Source.{Source}
 use Rattle.model.specs.declared.Core.{Core}
 use Rattle.model.specs.declared.Controller.{Controller}
+use Rattle.model.specs.declared.Command.{Command}
+use Rattle.model.specs.declared.Answer.{Answer}
 use Rattle.model.specs.Records.{maxSources, maxCores, sourceAt, coreAt}
-use Rattle.model.specs.Bytes.{stateBytes, stateFrom, isState}
+use Rattle.model.specs.Encoding.{targetOf, levelOf}
+use Rattle.model.specs.Bytes.{stateBytes, stateFrom, isState, joined, commandSize, commandBytes, commandsIn, packed, numberIn, idIn, cyclesIn}
 
 -- The lists have the arrays' lengths.
 pub record Sized (s : Controller) : Type 0 where
@@ -52,3 +57,19 @@ BytesWrittenBack = (b : List ℕ) → AreBytes b → isState b ≡ true → stat
 
 abbrev pub BytesFit : Type 0
 BytesFit = (b : List ℕ) → AreBytes b → Sized (stateFrom b) × Fits (stateFrom b)
+
+pub record CommandFits (c : Command) : Type 0 where
+  pub target : IsWord (targetOf c)
+  pub level : IsWord (levelOf c)
+
+-- Five bytes a command. Numbers that fit make bytes, so any list of a program's commands can be handed over.
+abbrev pub CommandsReadBack : Type 0
+CommandsReadBack =
+    (cs : List Command) →
+    (commandsIn (joined commandBytes cs) ≡ cs) × (length (joined commandBytes cs) ≡ commandSize * length cs) ×
+    (((c : Command) → List·Memᴰ c cs → CommandFits c) → AreBytes (joined commandBytes cs))
+
+abbrev pub PackedRead : Type 0
+PackedRead =
+    (a : Answer) → a .number < 2 ^ 8 → IsWord (a .id .0) →
+    (numberIn (packed a) ≡ a .number) × (idIn (packed a) ≡ a .id .0) × (cyclesIn (packed a) ≡ a .cycles)

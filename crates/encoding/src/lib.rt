@@ -5,10 +5,14 @@ ghost use mathlib.Core.Path.{_≡_};
 ghost use mathlib.Core.List.{_∷_, _++_};
 ghost use lib.ListN.{length};
 ghost use lib.Seq.{sets};
+ghost use Rattle.model.specs.Encoding.{commandOf};
 ghost use Rattle.model.specs.Bytes.{word, flagByte, wordAt, sourceSize, coreSize, stateSize, sourceBytes, coreBytes, stateBytes, sourceFrom, coreFrom, stateFrom, sourceFlags, coreFlags, isState, answerSize};
 use model::CORES;
+use model::Command;
 use model::Controller;
 use model::Core;
+use model::CoreId;
+use model::Decoded;
 use model::SOURCES;
 use model::Source;
 use model::SourceId;
@@ -133,6 +137,24 @@ pub fn is_state(b: &[u8]) -> bool
         cores_passed += 1;
     }
     true
+}
+
+// The command that three numbers name: its own, 0 to 7, the id or the core, and the priority. A number above 7 names none.
+// Rules out: a number 8 taken for a command (`eight_decoded`); two commands whose numbers are swapped (`mask_and_unmask_swapped`).
+pub fn command(number: u16, at: u16, p: u16) -> Decoded
+    ensures { λ r. ⌜ r ≡ commandOf number at p ⌝ }
+{
+    match number {
+        0 => Decoded::Known(Command::SetSourcePriority(SourceId(at), p)),
+        1 => Decoded::Known(Command::Mask(SourceId(at))),
+        2 => Decoded::Known(Command::Unmask(SourceId(at))),
+        3 => Decoded::Known(Command::SetCorePriority(CoreId(at), p)),
+        4 => Decoded::Known(Command::Trigger(SourceId(at))),
+        5 => Decoded::Known(Command::Claim(CoreId(at))),
+        6 => Decoded::Known(Command::Redeliver(SourceId(at))),
+        7 => Decoded::Known(Command::Complete(SourceId(at))),
+        _ => Decoded::Unknown,
+    }
 }
 
 // ---- writing

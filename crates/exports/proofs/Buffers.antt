@@ -5,14 +5,14 @@
 use Prim.Native.Nat.{ℕ, suc, _+_, _*_, _/_, _%_, _<_, _≤_}
 use mathlib.Core.Path.{_≡_, ap}
 use mathlib.Core.List.{List, [], _∷_, _++_}
-use mathlib.Core.Bool.{true, false, and-false}
+use mathlib.Core.Bool.{Bool, true, false, and-false}
 use lib.ListN.{length, set}
 use lib.Seq.{sets}
 use native.Mathlib.Omega.{arith}
-use lib.Dec.{eqb}
-use borrow.Author.Tests.{eq-eqb, ne-eqb, le-leb, lt-leb, eqb-true}
-use Rattle.model.proofs.Bools.{and-l, and-in, Flag, on, off, flag}
-use Rattle.model.specs.Bytes.{stateSize, isState, commandSize, answerSize, fitsRun}
+use lib.Dec.{eqb, leb}
+use borrow.Author.Tests.{eq-eqb, ne-eqb, le-leb, lt-leb, eqb-true, leb-true}
+use Rattle.model.proofs.Bools.{and-l, and-r, and-in, Flag, on, off, flag}
+use Rattle.model.specs.Bytes.{stateSize, isState, commandSize, answerSize, roomFor, fitsRun}
 
 pub state-size : (b : List ℕ) → isState b ≡ true → length b ≡ stateSize
 unfolding isState
@@ -42,7 +42,16 @@ module _ (b list answers : List ℕ) where
           simp (lt-leb _ _ less, and-false)
       go (off e) = simp (e, and-false)
 
+  -- there is room for five bytes to each command that can be read
+  pub room-enough : roomFor list answers ≡ true → length list ≤ length answers
+  room-enough e =
+      let is-whole : Bool = eqb (length list % commandSize) 0 in
+      let has-room : Bool = leb (length list / commandSize * answerSize) (length answers) in
+      let whole : length list % commandSize ≡ 0 = eqb-true _ _ (and-l is-whole has-room e) in
+      let room : length list / commandSize * answerSize ≤ length answers = leb-true _ _ (and-r is-whole has-room e) in
+      omega arith
+
   pub fits : isState b ≡ true → length list % commandSize ≡ 0 → length list ≤ length answers → fitsRun b list answers ≡ true
   fits p e h =
       let room : length list / commandSize * answerSize ≤ length answers = omega arith in
-      and-in (and-in p (eq-eqb _ _ e)) (le-leb _ _ room)
+      and-in p (and-in (eq-eqb _ _ e) (le-leb _ _ room))

@@ -1,22 +1,24 @@
 -- What each call answers and writes, from what the functions that it calls hand back. Assumes nothing.
---   make-refused, make-answered                   `makeCall`
---   bad-number, bad-bytes, execute-answered       `executeCall`
---   run-refused                                   `runCall`, where the list or a buffer does not fit; Running has the rest
-use Prim.Native.Nat.{ℕ, _<_, _≤_}
-use mathlib.Core.Path.{_≡_, refl, sym, ap}
+--   make-unfit, make-refused, make-answered       `makeCall`
+--   bad-bytes, bad-number, execute-answered       `executeCall`
+--   run-fit, run-unfit, run-by, run-refused       `runCall`: a run, none, either; Running has a run command by command
+use Prim.Native.Nat.{ℕ}
+use mathlib.Core.Path.{_≡_, refl, sym, _∙_, ap, subst}
 use mathlib.Core.List.{List}
-use mathlib.Core.Bool.{true, false, _&&_, and-false}
+use mathlib.Core.Bool.{true, false}
 use lib.ListN.{length}
-use lib.Dec.{ltb}
-use native.Mathlib.Omega.{arith}
-use borrow.Author.Tests.{eq-eqb, ne-eqb, lt-ltb, le-ltb}
-use Rattle.model.proofs.Bools.{and-in}
+use lib.Seq.{sets}
+use borrow.Author.Tests.{eq-eqb, ne-eqb}
+use Rattle.model.proofs.Bools.{Flag, on, off, flag}
 use Rattle.model.specs.declared.Controller.{Controller}
 use Rattle.model.specs.declared.Command.{Command}
+use Rattle.model.specs.declared.Decoded.{Decoded}
+use Rattle.model.specs.declared.Decoded.the-variants.{Unknown, Known}
 use Rattle.model.specs.declared.Answer.{Answer}
-use Rattle.model.specs.Commands.{execute, make}
+use Rattle.model.specs.Commands.{execute, make, run}
+use Rattle.model.specs.Ledger.{answersTo}
 use Rattle.model.specs.Encoding.{commandOf}
-use Rattle.model.specs.Bytes.{stateSize, stateBytes, stateFrom, isState, unreadable, packed, Call, callOf, makeCall, executeCall, noCount, fitsRun, RunCall, runCall}
+use Rattle.model.specs.Bytes.{stateSize, stateBytes, stateFrom, isState, joined, commandsIn, answerBytes, unreadable, packed, Call, callOf, makeCall, executedOn, executeCall, noCount, fitsRun, RunCall, runCallOf, runCall}
 
 -- an answer r and bytes b are those of a call
 abbrev Does : ℕ → List ℕ → Call → Type 0
@@ -34,42 +36,71 @@ answered r b a call e er eb = rw (er, eb) (done (packed a) (stateBytes (a .state
 -- ---- making a controller
 
 module _ (n m : ℕ) (b : List ℕ) where
-  pub make-refused : (length b ≡ stateSize → ⊥) → Does unreadable b (makeCall n m b)
+  pub make-unfit : (length b ≡ stateSize → ⊥) → Does unreadable b (makeCall n m b)
   unfolding makeCall
-  make-refused h = done unreadable b (makeCall n m b) (rw (ne-eqb _ _ h))
+  make-unfit h = done unreadable b (makeCall n m b) (rw (ne-eqb _ _ h))
 
-  pub make-answered :
-      (r : ℕ) (b′ : List ℕ) (a : Answer) → length b ≡ stateSize → a ≡ make n m →
-      r ≡ packed a → b′ ≡ stateBytes (a .state) → Does r b′ (makeCall n m b)
-  unfolding makeCall
-  make-answered r b′ a h e er eb = answered r b′ a (makeCall n m b) (rw (eq-eqb _ _ h, e)) er eb
+  module _ (r : ℕ) (a : Answer) (h : length b ≡ stateSize) (e : a ≡ make n m) (er : r ≡ packed a) where
+    pub make-refused : (a .number ≡ 0 → ⊥) → Does r b (makeCall n m b)
+    unfolding makeCall
+    make-refused k = done r b (makeCall n m b) (rw (eq-eqb _ _ h, ← e, ne-eqb _ _ k, ← er))
+
+    pub make-answered : (b′ : List ℕ) → a .number ≡ 0 → b′ ≡ stateBytes (a .state) → Does r b′ (makeCall n m b)
+    unfolding makeCall
+    make-answered b′ k eb = answered r b′ a (makeCall n m b) (rw (eq-eqb _ _ h, ← e, eq-eqb _ _ k)) er eb
 
 -- ---- one command
 
 module _ (number at p : ℕ) (b : List ℕ) where
-  execute-refused : isState b && ltb number 8 ≡ false → Does unreadable b (executeCall number at p b)
-  unfolding executeCall
-  execute-refused e = done unreadable b (executeCall number at p b) (rw e)
-
-  pub bad-number : 7 < number → Does unreadable b (executeCall number at p b)
-  bad-number h = execute-refused (simp (le-ltb number 8 h, and-false))
-
   pub bad-bytes : isState b ≡ false → Does unreadable b (executeCall number at p b)
-  bad-bytes e = execute-refused (rw e)
-
-  pub execute-answered :
-      (r : ℕ) (b′ : List ℕ) (s : Controller) (c : Command) (a : Answer) →
-      isState b ≡ true → number ≤ 7 → s ≡ stateFrom b → c ≡ commandOf number at p → a ≡ execute s c →
-      r ≡ packed a → b′ ≡ stateBytes (a .state) → Does r b′ (executeCall number at p b)
   unfolding executeCall
-  execute-answered r b′ s c a eb h es ec ea er e′ =
-      let same : a ≡ execute (stateFrom b) (commandOf number at p) = rw (ea, es, ec) in
-      answered r b′ a (executeCall number at p b) (rw (and-in eb (lt-ltb number 8 (omega arith)), same)) er e′
+  bad-bytes e = done unreadable b (executeCall number at p b) (rw e)
+
+  module _ (d : Decoded) (e : isState b ≡ true) (ed : d ≡ commandOf number at p) where
+    executed : executeCall number at p b ≡ executedOn b d
+    unfolding executeCall
+    executed = rw (e, ed)
+
+    pub bad-number : d ≡ Unknown → Does unreadable b (executeCall number at p b)
+    bad-number f = done unreadable b (executeCall number at p b) (executed ∙ rw f)
+
+    pub execute-answered :
+        (r : ℕ) (b′ : List ℕ) (s : Controller) (c : Command) (a : Answer) → d ≡ Known c → s ≡ stateFrom b → a ≡ execute s c →
+        r ≡ packed a → b′ ≡ stateBytes (a .state) → Does r b′ (executeCall number at p b)
+    execute-answered r b′ s c a f es ea er e′ =
+        let same : a ≡ execute (stateFrom b) c = rw (ea, es) in
+        answered r b′ a (executeCall number at p b) (executed ∙ rw (f, ← same)) er e′
 
 -- ---- a list of commands
 
 abbrev pub DoesRun : ℕ → List ℕ → List ℕ → RunCall → Type 0
 DoesRun r b answers call = (r ≡ call .result) × (b ≡ call .bytes) × (answers ≡ call .answers)
+
+abbrev pub answersFrom : Controller → List Command → List ℕ
+answersFrom s cs = joined answerBytes (answersTo s cs)
+
+-- the run of the commands cs from the state s, over the answers given
+abbrev pub ranOver : List ℕ → Controller → List Command → RunCall
+ranOver answers s cs = runCallOf (length cs) (stateBytes (run s cs)) (sets answers 0 (answersFrom s cs))
+
+module _ (b list answers : List ℕ) where
+  pub run-fit : fitsRun b list answers ≡ true → runCall b list answers ≡ ranOver answers (stateFrom b) (commandsIn list)
+  unfolding runCall
+  run-fit e = rw e
+
+  pub run-unfit : fitsRun b list answers ≡ false → runCall b list answers ≡ runCallOf noCount b answers
+  unfolding runCall
+  run-unfit e = rw e
+
+  -- what holds of a run and of none
+  pub run-by :
+      (P : RunCall → Type 0) → (fitsRun b list answers ≡ true → P (ranOver answers (stateFrom b) (commandsIn list))) →
+      P (runCallOf noCount b answers) → P (runCall b list answers)
+  run-by P fit unfit = go (flag (fitsRun b list answers))
+    where
+      go : Flag (fitsRun b list answers) → P (runCall b list answers)
+      go (on e) = subst P (sym (run-fit e)) (fit e)
+      go (off e) = subst P (sym (run-unfit e)) unfit
 
 pub run-refused : (b list answers : List ℕ) → fitsRun b list answers ≡ false → DoesRun noCount b answers (runCall b list answers)
 unfolding runCall

@@ -1,27 +1,43 @@
 -- The commands in a row of bytes, read at a place i: one command and those behind it, or none. Assumes nothing.
---   commandAt, command-read    the command at i, and the same from its parts
---   commands-more              five bytes are left, and the first is a number below 8
---   commands-bad               five bytes are left, and the first is above 7
+--   commandAt, command-read    what the five bytes at i name, and the same from its parts
+--   commands-more              they name a command
+--   commands-bad               they name none
 --   commands-end               no byte is left
-use Prim.Native.Nat.{ℕ, suc, _+_, _<_, _≤_}
+--   commands-length            a command takes five bytes
+use Prim.Native.Nat.{ℕ, suc, _+_, _*_, _<_, _≤_}
 use mathlib.Core.Path.{_≡_, ap, _∙_}
 use mathlib.Core.List.{List, [], _∷_}
 use lib.ListN.{length, getD, drop, drop-of-length-le}
 use lib.Seq.{drop-cons}
 use native.Mathlib.Numerals.{towards-suc}
 use native.Mathlib.Omega.{arith}
-use borrow.Author.Tests.{lt-ltb, le-ltb}
 use Rattle.model.specs.declared.Command.{Command}
+use Rattle.model.specs.declared.Decoded.{Decoded}
+use Rattle.model.specs.declared.Decoded.the-variants.{Unknown, Known}
 use Rattle.model.specs.Encoding.{commandOf}
-use Rattle.model.specs.Bytes.{wordAt, commandSize, commandsIn}
+use Rattle.model.specs.Bytes.{wordAt, commandSize, orEnd, commandsIn}
 
-abbrev pub commandAt : List ℕ → ℕ → Command
+orEnd-length : (d : Decoded) (rest : List Command) → length (orEnd d rest) ≤ suc (length rest)
+orEnd-length Unknown rest = omega arith
+orEnd-length (Known c) rest = omega arith
+
+pub commands-length : (l : List ℕ) → commandSize * length (commandsIn l) ≤ length l
+unfolding commandsIn
+commands-length [] = omega arith
+commands-length (a ∷ []) = omega arith
+commands-length (a ∷ b ∷ []) = omega arith
+commands-length (a ∷ b ∷ c ∷ []) = omega arith
+commands-length (a ∷ b ∷ c ∷ d ∷ []) = omega arith
+commands-length (a ∷ b ∷ c ∷ d ∷ e ∷ rest) =
+    omega (arith, orEnd-length (commandOf a (b + 256 * c) (d + 256 * e)) (commandsIn rest), commands-length rest)
+
+abbrev pub commandAt : List ℕ → ℕ → Decoded
 commandAt l i = commandOf (getD l i 0) (wordAt l (i + 1)) (wordAt l (i + 3))
 
 module _ (l : List ℕ) (i : ℕ) where
   pub command-read :
-      (x y : ℕ) (c : Command) → x ≡ wordAt l (i + 1) → y ≡ wordAt l (i + 3) → c ≡ commandOf (getD l i 0) x y → c ≡ commandAt l i
-  command-read x y c ex ey e = rw (e, ex, ey)
+      (x y : ℕ) (d : Decoded) → x ≡ wordAt l (i + 1) → y ≡ wordAt l (i + 3) → d ≡ commandOf (getD l i 0) x y → commandAt l i ≡ d
+  command-read x y d ex ey e = rw (e, ex, ey)
 
   five : i + commandSize ≤ length l →
       drop i l ≡ getD l i 0 ∷ getD l (i + 1) 0 ∷ getD l (i + 1 + 1) 0 ∷ getD l (i + 3) 0 ∷ getD l (i + 3 + 1) 0 ∷ drop (i + 5) l
@@ -40,14 +56,16 @@ module _ (l : List ℕ) (i : ℕ) where
         drop-cons l (suc (suc (suc (suc i)))) 0,
       ))
 
-  pub commands-more :
-      i + commandSize ≤ length l → getD l i 0 < 8 → commandsIn (drop i l) ≡ commandAt l i ∷ commandsIn (drop (i + commandSize) l)
+  commands-there : i + commandSize ≤ length l → commandsIn (drop i l) ≡ orEnd (commandAt l i) (commandsIn (drop (i + commandSize) l))
   unfolding commandsIn
-  commands-more h k = ap commandsIn (five h) ∙ rw (lt-ltb (getD l i 0) 8 k)
+  commands-there h = ap commandsIn (five h)
 
-  pub commands-bad : i + commandSize ≤ length l → 8 ≤ getD l i 0 → commandsIn (drop i l) ≡ []
-  unfolding commandsIn
-  commands-bad h k = ap commandsIn (five h) ∙ rw (le-ltb (getD l i 0) 8 k)
+  pub commands-more :
+      (c : Command) → i + commandSize ≤ length l → commandAt l i ≡ Known c → commandsIn (drop i l) ≡ c ∷ commandsIn (drop (i + commandSize) l)
+  commands-more c h e = commands-there h ∙ ap (λ (d : Decoded). orEnd d (commandsIn (drop (i + commandSize) l))) e
+
+  pub commands-bad : i + commandSize ≤ length l → commandAt l i ≡ Unknown → commandsIn (drop i l) ≡ []
+  commands-bad h e = commands-there h ∙ ap (λ (d : Decoded). orEnd d (commandsIn (drop (i + commandSize) l))) e
 
   pub commands-end : length l ≤ i → commandsIn (drop i l) ≡ []
   unfolding commandsIn

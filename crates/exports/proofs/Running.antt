@@ -8,31 +8,31 @@ use Prim.Native.Nat.{ℕ, _+_, _/_, _%_, _<_, _≤_}
 use mathlib.Core.Path.{_≡_, refl, sym, ap, _∙_}
 use mathlib.Core.List.{List, [], _∷_, _++_}
 use mathlib.Core.Bool.{true}
-use lib.ListN.{length, getD, drop}
+use lib.ListN.{length, drop}
 use lib.Seq.{sets, length-sets}
 use native.Mathlib.Omega.{arith}
+use Rattle.model.specs.Behaviours.{runBy, answersBy}
 use Rattle.model.specs.declared.Controller.{Controller}
 use Rattle.model.specs.declared.Command.{Command}
+use Rattle.model.specs.declared.Decoded.the-variants.{Known}
 use Rattle.model.specs.declared.Answer.{Answer}
 use Rattle.model.specs.Commands.{execute, run}
-use Rattle.model.specs.Bytes.{stateFrom, stateBytes, isState, runCall, commandSize, commandsIn, answersTo, answerBytes, joined}
+use Rattle.model.specs.Ledger.{answersTo}
+use Rattle.model.specs.Bytes.{stateFrom, stateBytes, isState, runCall, commandSize, commandsIn, answerBytes, joined}
 use Rattle.exports.proofs.Commands.{commandAt, commands-more}
 use Rattle.exports.proofs.Buffers.{sets-append, fits}
-use Rattle.exports.proofs.Calls.{DoesRun}
+use Rattle.exports.proofs.Calls.{DoesRun, answersFrom}
 
--- the commands from place i on, and the bytes of what they answer from a state
+-- the commands from place i on
 abbrev pub left : List ℕ → ℕ → List Command
 left list i = commandsIn (drop i list)
-
-abbrev answersFrom : Controller → List Command → List ℕ
-answersFrom s cs = joined answerBytes (answersTo s cs)
 
 -- an answer written at i, and behind it those to the rest, are the answers from i on
 answers-more :
     (answers answers′ : List ℕ) (s : Controller) (i : ℕ) (c : Command) (a : Answer) (rest : List Command) →
     a ≡ execute s c → answers′ ≡ sets answers i (answerBytes a) →
     sets answers′ (i + commandSize) (answersFrom (a .state) rest) ≡ sets answers i (answersFrom s (c ∷ rest))
-unfolding answersTo joined
+unfolding answersBy joined
 answers-more answers answers′ s i c a rest ea e =
     ap (λ (b : List ℕ). sets b (i + commandSize) (answersFrom (a .state) rest)) e
     ∙ sets-append answers i (i + commandSize) (answerBytes a) (answersFrom (a .state) rest) refl
@@ -69,15 +69,14 @@ module _ (list answers₀ : List ℕ) (s₀ : Controller) where
 
   pub taken-more :
       (answers answers′ : List ℕ) (s : Controller) (i : ℕ) (c : Command) (a : Answer) →
-      Taken answers s i → i < length list → getD list i 0 ≤ 7 →
-      c ≡ commandAt list i → a ≡ execute s c → answers′ ≡ sets answers i (answerBytes a) →
+      Taken answers s i → i < length list →
+      commandAt list i ≡ Known c → a ≡ execute s c → answers′ ≡ sets answers i (answerBytes a) →
       Taken answers′ (a .state) (i + commandSize)
-  unfolding run
-  taken-more answers answers′ s i c a t h k ec ea e =
+  unfolding runBy
+  taken-more answers answers′ s i c a t h ec ea e =
       let next : i + commandSize ≤ length list = more-left answers s i t h in
       let rest = left list (i + commandSize) in
-      let commands : left list i ≡ c ∷ rest
-      = commands-more list i next (omega arith) ∙ ap (λ (x : Command). x ∷ rest) (sym ec) in
+      let commands : left list i ≡ c ∷ rest = commands-more list i c next ec in
       record {
         within = next;
         whole = t .whole;
@@ -96,7 +95,7 @@ pub taken-all :
     isState b ≡ true → s₀ ≡ stateFrom b →
     Taken list answers₀ s₀ answers s i → left list i ≡ [] → b′ ≡ stateBytes s →
     DoesRun (i / commandSize) b′ answers (runCall b list answers₀)
-unfolding runCall run answersTo joined
+unfolding runCall runBy answersBy joined
 taken-all b list answers₀ s₀ answers b′ s i eb es t none e =
     let count : i / commandSize ≡ length (commandsIn list) = omega (arith, ap length none, t .counts) in
     let reached : s ≡ run s₀ (commandsIn list) = sym (ap (run s) none) ∙ t .runs in

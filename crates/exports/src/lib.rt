@@ -4,6 +4,7 @@
 ghost use Prim.Native.Nat.{_+_, _*_};
 ghost use mathlib.Core.Path.{_≡_};
 ghost use Rattle.model.specs.Bytes.{makeCall, executeCall, runCall};
+use model::Decoded;
 use model::SourceId;
 
 const UNREADABLE: u64 = 255;
@@ -18,9 +19,9 @@ fn packed(number: u8, id: SourceId, cycles: u16) -> u64
     number as u64 + 256 * (id.0 as u64 + 65536 * (cycles as u64))
 }
 
-// A fresh controller of n sources and m cores, written as bytes.
-// Rules out: a refusal answered as a success (`make_number_dropped`); a controller of other sizes (`sizes_swapped`); a buffer
-// longer than a state (`longer_buffer_accepted`).
+// A fresh controller of n sources and m cores, written as bytes. Sizes out of range are refused by 2, and the buffer stays as it was.
+// Rules out: a buffer overwritten by a refusal (`refused_make_written`); a refusal answered as a success (`make_number_dropped`); a
+// controller of other sizes (`sizes_swapped`); a buffer longer than a state (`longer_buffer_accepted`).
 #[no_mangle]
 pub extern "C" fn psic_make(n: u16, m: u16, state: &mut [u8]) -> u64
     ensures { λ r. ⌜ (r ≡ (makeCall n m (now (state .entry))) .result) × (now (state .exit) ≡ (makeCall n m (now (state .entry))) .bytes) ⌝ }
@@ -29,36 +30,42 @@ pub extern "C" fn psic_make(n: u16, m: u16, state: &mut [u8]) -> u64
         return UNREADABLE;
     }
     let made = commands::make(n, m);
+    let answer = packed(made.number, made.id, made.cycles);
+    if made.number != 0 {
+        return answer;
+    }
     let fresh = made.state;
     encoding::put_state(state, fresh);
-    packed(made.number, made.id, made.cycles)
+    answer
 }
 
 // One command, by its number 0 to 7, on the state that the bytes encode.
-// Rules out: a number 8 taken for a command (`eight_accepted`); the state given, written back instead of the state reached
-// (`state_given_back`); the priority taken for the id (`priority_as_target`).
+// Rules out: the state given, written back instead of the state reached (`state_given_back`); a refusal answered as a success
+// (`execute_number_dropped`).
 #[no_mangle]
 pub extern "C" fn psic_execute(state: &mut [u8], number: u16, at: u16, priority: u16) -> u64
     ensures { λ r. ⌜ (r ≡ (executeCall number at priority (now (state .entry))) .result) × (now (state .exit) ≡ (executeCall number at priority (now (state .entry))) .bytes) ⌝ }
 {
-    if 7 < number {
-        return UNREADABLE;
-    }
     if !encoding::is_state(state) {
         return UNREADABLE;
     }
-    let given = encoding::state_from(state);
-    let a = commands::execute(given, batch::command(number, at, priority));
-    let next = a.state;
-    encoding::put_state(state, next);
-    packed(a.number, a.id, a.cycles)
+    match encoding::command(number, at, priority) {
+        Decoded::Unknown => UNREADABLE,
+        Decoded::Known(c) => {
+            let given = encoding::state_from(state);
+            let a = commands::execute(given, c);
+            let next = a.state;
+            encoding::put_state(state, next);
+            packed(a.number, a.id, a.cycles)
+        }
+    }
 }
 
 // A list of commands, 5 bytes each, from the state that the bytes encode; an answer of 5 bytes for each. A command with a number
 // above 7 ends the run: the count says how many were taken.
-// Rules out: a number 8 taken for a command (`eight_run`); a cut end (`cut_end_run`); answers written over one another
-// (`answers_at_front`) or past their buffer (`byte_per_answer`); a refusal answered as a success (`list_number_dropped`); a count of
-// bytes (`bytes_counted`) or of commands that were not taken (`whole_list_counted`).
+// Rules out: a cut end (`cut_end_run`); answers written over one another (`answers_at_front`) or past their buffer
+// (`byte_per_answer`); a refusal answered as a success (`list_number_dropped`); a count of bytes (`bytes_counted`) or of commands that
+// were not taken (`whole_list_counted`).
 #[no_mangle]
 pub extern "C" fn psic_run(state: &mut [u8], list: &[u8], answers: &mut [u8]) -> u64
     ensures { λ r. ⌜ (r ≡ (runCall (now (state .entry)) (now (list .entry)) (now (answers .entry))) .result) × (now (state .exit) ≡ (runCall (now (state .entry)) (now (list .entry)) (now (answers .entry))) .bytes) × (now (answers .exit) ≡ (runCall (now (state .entry)) (now (list .entry)) (now (answers .entry))) .answers) ⌝ }
@@ -75,18 +82,19 @@ pub extern "C" fn psic_run(state: &mut [u8], list: &[u8], answers: &mut [u8]) ->
     let mut s = encoding::state_from(state);
     let mut i = 0;
     while i < list.len() {
-        let kind = list[i];
-        if 7 < kind {
-            break;
-        }
-        let c = batch::command(
-            kind as u16,
+        let read = encoding::command(
+            list[i] as u16,
             encoding::word_at(list, i + 1),
             encoding::word_at(list, i + 3),
         );
-        let a = commands::execute(s, c);
-        encoding::put_answer(answers, i, a.number, a.id, a.cycles);
-        s = a.state;
+        match read {
+            Decoded::Unknown => break,
+            Decoded::Known(c) => {
+                let a = commands::execute(s, c);
+                encoding::put_answer(answers, i, a.number, a.id, a.cycles);
+                s = a.state;
+            }
+        }
         i += 5;
     }
     encoding::put_state(state, s);

@@ -1,5 +1,5 @@
 -- After an accepted command and before its settling: the state is consistent and in one of settling's two phases. Assumes nothing.
---   effect-m             the number of cores stays
+--   effect-sizes         the sizes stay; effect-m is the number of cores
 --   effect-begins        from a sound state; set core priority leaves every filled box dirty, the other commands leave none dirty
 --   effect-consistent    the first half of it, from the checks
 use Prim.Native.Nat.{ℕ, _<_}
@@ -19,16 +19,19 @@ use Rattle.guarantees.proofs.Checked.{Named, named-index, Checked, chec
 use Rattle.guarantees.proofs.SourceEffects.{Replaces, withSource-consistent, set-replaces, opened-replaces, redelivered-replaces, ended-replaces}
 use Rattle.guarantees.proofs.CoreEffects.{withCores-consistent, claimedCores, claimed-recored, claimed-delivering, setCores, set-recored, set-allDirty}
 
-pub effect-m : (s : Controller) (o : Command) → (effect s o) .m ≡ s .m
+pub effect-sizes : (s : Controller) (o : Command) → ((effect s o) .n ≡ s .n) × ((effect s o) .m ≡ s .m)
 unfolding effect
-effect-m s (SetSourcePriority id p) = refl
-effect-m s (Mask id) = refl
-effect-m s (Unmask id) = refl
-effect-m s (SetCorePriority k p) = refl
-effect-m s (Trigger id) = refl
-effect-m s (Claim k) = refl
-effect-m s (Redeliver id) = refl
-effect-m s (Complete id) = refl
+effect-sizes s (SetSourcePriority id p) = (refl, refl)
+effect-sizes s (Mask id) = (refl, refl)
+effect-sizes s (Unmask id) = (refl, refl)
+effect-sizes s (SetCorePriority k p) = (refl, refl)
+effect-sizes s (Trigger id) = (refl, refl)
+effect-sizes s (Claim k) = (refl, refl)
+effect-sizes s (Redeliver id) = (refl, refl)
+effect-sizes s (Complete id) = (refl, refl)
+
+pub effect-m : (s : Controller) (o : Command) → (effect s o) .m ≡ s .m
+effect-m s o = effect-sizes s o .1
 
 -- ---- a sound state, as settling sees it
 

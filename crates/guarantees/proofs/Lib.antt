@@ -8,4 +8,7 @@ pub mod Effects
 pub mod AtRest
 pub mod Kept
 pub mod Refusals
+pub mod Bare
+pub mod Rows
 pub mod Changes
+pub mod Ids

@@ -1,10 +1,10 @@
 -- Each number for no is given exactly when its row of the table says (`RefusalsExact`), and a refused command changes nothing
--- (`RefusedUnchanged`).
+-- (`RefusedUnchanged`). The number answered is the refusal's (`RefusalAnswered`), and the rows fit no other (`number-unique`).
 -- The checks of every command are one chain over the rows, in the order 1, 3, 4, 5, 6, 7, 8 (`refusal-chain`); what the chain's
 -- number says of the rows, and back, is a fact about seven flags (`verdict`, `number`). Assumes nothing.
 use Prim.Native.Nat.{ℕ, zero, suc, _≤_}
 use mathlib.Core.Path.{_≡_, refl, sym, _∙_, ap, subst}
-use mathlib.Core.Logic.{_↔_}
+use mathlib.Core.Logic.{_↔_, _≢_}
 use mathlib.Core.Bool.{Bool, true, false, not, _||_, cond, false≢true}
 use native.Mathlib.Omega.{arith}
 use native.Mathlib.Decide.{decLe}
@@ -13,14 +13,14 @@ use borrow.Author.Tests.{lt-ltb, le-ltb, le-leb, lt-leb, ne-eqb}
 use Rattle.model.specs.declared.Controller.{Controller}
 use Rattle.model.specs.declared.Command.{Command}
 use Rattle.model.specs.declared.Command.the-variants.{SetSourcePriority, Mask, Unmask, SetCorePriority, Trigger, Claim, Redeliver, Complete}
-use Rattle.model.specs.Records.{indexOf, sourceAt, coreAt}
+use Rattle.model.specs.Records.{indexOf, sourceAt, coreAt, answer}
 use Rattle.model.specs.Priorities.{topPriority}
 use Rattle.model.specs.Requests.{claimed}
 use Rattle.model.specs.WellFormed.{between, wellFormed, WellFormed}
-use Rattle.model.specs.Commands.{unless, refusalOf, refusal, settled, refused}
-use Rattle.model.specs.Statements.{coreOutOfRange, sourceOutOfRange, priorityOutOfRange, triggersPending, claimsEmpty, actsOnUnclaimed, Refusals, RefusalsExact, RefusedUnchanged}
+use Rattle.model.specs.Commands.{unless, refusalOf, refusal, settled, refused, execute}
+use Rattle.model.specs.Statements.{coreOutOfRange, sourceOutOfRange, priorityOutOfRange, triggersPending, claimsEmpty, actsOnUnclaimed, Refusals, RefusalsExact, RefusalAnswered, RefusedUnchanged}
 use Rattle.soundness.proofs.Test.{test-exact}
-use Rattle.guarantees.proofs.Accepted.{execute-refused, by-answer}
+use Rattle.guarantees.proofs.Accepted.{by-answer}
 
 -- ---- a chain of checks, and what its number says
 
@@ -160,7 +160,7 @@ module _ (s : Controller) (c : Command) where
   given : {k : ℕ} {H : Type 0} → (Says k → H) → (H → Says k) → (refusal s c ≡ k) ↔ H
   given to from = (λ q. to (says q), λ h. said (from h))
 
-  refusals : Refusals s c
+  refusals : Refusals (refusal s c) s c
   refusals =
       record {
         one = given (λ v. elim v [ at-state h ↦ h ]) at-state;
@@ -175,9 +175,27 @@ module _ (s : Controller) (c : Command) where
         at-most-eight = rw (refusal-chain s c) (search (cond-le, lit≤, tt) depth 10);
       }
 
-pub refusals-exact : RefusalsExact
-refusals-exact = refusals
+  -- the rows leave no choice
+  fixed : {k : ℕ} (number : ℕ) → Refusals number s c → Says k → number ≡ k
+  fixed number r (passed h) = r .zero .1 h
+  fixed number r (at-state h) = r .one .1 h
+  fixed number r (at-core h) = r .three .1 h
+  fixed number r (at-source h) = r .four .1 h
+  fixed number r (at-priority h) = r .five .1 h
+  fixed number r (at-pending h) = r .six .1 h
+  fixed number r (at-empty h) = r .seven .1 h
+  fixed number r (at-unclaimed h) = r .eight .1 h
 
-pub refused-unchanged : RefusedUnchanged
+pub refusal-answered : RefusalAnswered
 unfolding refused settled
-refused-unchanged s c = (execute-refused s c, by-answer s c (λ a. a .number ≡ refusal s c) (λ e. sym e) (λ h. refl))
+refusal-answered s c = by-answer s c (λ a. a .number ≡ refusal s c) (λ e. sym e) (λ h. refl)
+
+pub refusals-exact : RefusalsExact execute
+refusals-exact s c = rw (refusal-answered s c) (refusals s c)
+
+pub number-unique : (s : Controller) (c : Command) (number : ℕ) → Refusals number s c → number ≡ (execute s c) .number
+number-unique s c number r = fixed s c number r (says s c refl) ∙ sym (refusal-answered s c)
+
+pub refused-unchanged : RefusedUnchanged execute
+unfolding refused settled
+refused-unchanged s c = by-answer s c (λ a. a .number ≢ 0 → a ≡ answer s (a .number) 0 0) (λ e h. absurd (h refl)) (λ h n. refl)

@@ -2,7 +2,7 @@
 -- At each threshold either every core's current priority is at or above it, or some core's is below it, and then so is everything in
 -- the collection that no core shows: the candidates' priorities, and the configured priorities under filled boxes.
 use Prim.Native.Nat.{ℕ, suc, _+_, _≤_, _<_, min}
-use mathlib.Core.Path.{_≡_, subst₂}
+use mathlib.Core.Path.{_≡_, refl, subst₂}
 use mathlib.Core.List.{List}
 use mathlib.Core.Bool.{Bool, true, false, cond, not}
 use native.Mathlib.Omega.{arith}
@@ -126,9 +126,12 @@ module _ (b : Ledger) (s : Controller) where
     strict : PriorityStrict (s .n) (s .m) b s
     strict =
         record {
+          n-same = refl;
+          m-same = refl;
           top-m = top-of currents everything (s .m) (row-length (s .m) current) (collection-length (s .n) (s .m) b s) currents-count;
           boxes-placed = boxes-placed b s w match;
           box-priority = box-priority b s w match;
+          current-given = current-given b s w match;
           none-higher = λ P p. sorted-le (row (s .m) (given b P)) currents
               (λ t. omega (arith, currents-count t, row-count-le t (s .m) (given b P), placement-count t (s .n) (s .m) b s P p));
         }

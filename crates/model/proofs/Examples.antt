@@ -1,11 +1,13 @@
 -- The cases of document 01's table hold of the definitions, each list by one computation. Assumes nothing.
 --   marked-pass     T1 to T12
 --   further-pass    further rows of the table, and the tie between two requests
+--   computed        opens what a run computes with, for the computed cases of the crates above too
 --   start-set-up    the table's start state is what 64 commands make of a fresh controller
 use mathlib.Core.Path.{_≡_, refl}
 use mathlib.Core.List.{List}
 use mathlib.Core.Bool.{true}
 use lib.Count.{leadingZeros}
+use Rattle.model.specs.Behaviours.{runBy}
 use Rattle.model.specs.declared.Controller.{Controller}
 use Rattle.model.specs.declared.Command.{Command}
 use Rattle.model.specs.Records.{reset}
@@ -20,8 +22,8 @@ use Rattle.model.specs.Ledger.{gather}
 use Rattle.model.specs.Cases.{numbered, start, setUp, answersAs, passes, allPass, marked, further}
 
 -- To open this name is to open every definition that a run computes with.
-computed : Controller → List Command → Controller
-unfolding leadingZeros floorLog2 priorityWidth topPriority every some walk tree boxed highest least leastPriority sizesInRange listsWhole sourceInRange isEmptyBox coreInRange isResetSource isResetCore backedBy sourcesInRange coresInRange sparesReset boxesBacked boxesDistinct boxesClean candidatesSettled coveredSettled wellFormed retract deliver firstDirty arbitrate next cycle settle countOf cyclesOf effect refusalOf refusal answeredId settled refused execute run gather numbered start answersAs passes allPass
+unfoldable pub computed : Controller → List Command → Controller
+unfolding leadingZeros floorLog2 priorityWidth topPriority every some walk tree boxed highest least leastPriority sizesInRange listsWhole sourceInRange isEmptyBox coreInRange isResetSource isResetCore backedBy sourcesInRange coresInRange sparesReset boxesBacked boxesDistinct boxesClean candidatesSettled coveredSettled wellFormed retract deliver firstDirty arbitrate next cycle settle countOf cyclesOf effect refusalOf refusal answeredId settled refused execute runBy gather numbered start answersAs passes allPass
 computed = run
 
 pub marked-pass : allPass marked ≡ true

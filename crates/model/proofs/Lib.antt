@@ -8,3 +8,7 @@ pub mod Boxes
 pub mod Priorities
 pub mod Candidates
 pub mod Examples
+pub mod LentExamples
+pub mod StateExamples
+pub mod LedgerExamples
+pub mod BytesExamples

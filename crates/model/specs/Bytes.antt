@@ -3,24 +3,30 @@
 --   stateBytes s        4 bytes of sizes, 128 sources of 7 bytes, 32 cores of 8 bytes: 1,156 in all
 --   isState b           b encodes a state: the length is right and each flag is 0 or 1; the state may still be unsound
 --   stateFrom b         that state
---   commandsIn b        the commands in a row of 5 bytes each: its number 0 to 7, the id or core, the priority
+--   commandBytes c      5 bytes: its number 0 to 7, the id or core, the priority
+--   commandsIn b        the commands in a row of such bytes
 --   answerBytes a       5 bytes: the number, the id, the cycles
+--   entriesIn cs b      the commands cs, each with the number and the id of its answer's bytes in the row b
+--   packed a            an answer as one number; numberIn, idIn, cyclesIn are its parts
 --   makeCall, executeCall, runCall    what the exported calls answer and write
 use Prim.Native.Nat.{ℕ, zero, suc, _+_, _*_, _/_, _%_}
 use mathlib.Core.List.{List, [], _∷_, _++_}
 use mathlib.Core.Bool.{Bool, _&&_, cond}
-use lib.ListN.{length, getD}
+use lib.ListN.{length, getD, drop}
 use lib.Seq.{sets}
-use lib.Dec.{ltb, leb, eqb}
+use lib.Dec.{leb, eqb}
 use Rattle.model.specs.declared.Source.{Source}
 use Rattle.model.specs.declared.Core.{Core}
 use Rattle.model.specs.declared.Controller.{Controller}
 use Rattle.model.specs.declared.Answer.{Answer}
 use Rattle.model.specs.declared.Command.{Command}
+use Rattle.model.specs.declared.Decoded.{Decoded}
+use Rattle.model.specs.declared.Decoded.the-variants.{Unknown, Known}
 use Rattle.model.specs.Records.{maxSources, maxCores, sourceId, sourceWith, boxWith, coreWith, controllerWith}
 use Rattle.model.specs.Walks.{every}
 use Rattle.model.specs.Commands.{execute, make, run}
-use Rattle.model.specs.Encoding.{commandOf}
+use Rattle.model.specs.Ledger.{Entry, entryWith, answersTo}
+use Rattle.model.specs.Encoding.{commandOf, numberOf, targetOf, levelOf}
 
 -- ---- single values
 
@@ -110,6 +116,14 @@ isState b =
 abbrev pub commandSize : ℕ
 commandSize = 5
 
+abbrev pub commandBytes : Command → List ℕ
+commandBytes c = numberOf c ∷ (word (targetOf c) ++ word (levelOf c))
+
+-- A command before those behind it; where none is named, the list ends.
+abbrev pub orEnd : Decoded → List Command → List Command
+orEnd Unknown rest = []
+orEnd (Known c) rest = c ∷ rest
+
 -- The commands up to the first that cannot be read: a number above 7, or fewer than five bytes left.
 unfoldable pub commandsIn : List ℕ → List Command
 commandsIn [] = []
@@ -117,7 +131,7 @@ commandsIn (a ∷ []) = []
 commandsIn (a ∷ b ∷ []) = []
 commandsIn (a ∷ b ∷ c ∷ []) = []
 commandsIn (a ∷ b ∷ c ∷ d ∷ []) = []
-commandsIn (a ∷ b ∷ c ∷ d ∷ e ∷ rest) = cond (ltb a 8) (commandOf a (b + 256 * c) (d + 256 * e) ∷ commandsIn rest) []
+commandsIn (a ∷ b ∷ c ∷ d ∷ e ∷ rest) = orEnd (commandOf a (b + 256 * c) (d + 256 * e)) (commandsIn rest)
 
 abbrev pub answerSize : ℕ
 answerSize = 5
@@ -125,13 +139,13 @@ answerSize = 5
 abbrev pub answerBytes : Answer → List ℕ
 answerBytes a = a .number ∷ (word (a .id .0) ++ word (a .cycles))
 
--- What a list of commands answers, each getting the state that the one before handed back.
-unfoldable pub answersTo : Controller → List Command → List Answer
-answersTo s [] = []
-answersTo s (c ∷ cs) = execute s c ∷ answersTo ((execute s c) .state) cs
+-- The commands with what they answered, the number and the id read from five bytes each.
+unfoldable pub entriesIn : List Command → List ℕ → List Entry
+entriesIn [] b = []
+entriesIn (c ∷ cs) b = entryWith c (getD b 0 0) (wordAt b 1) ∷ entriesIn cs (drop answerSize b)
 
 -- ---- the calls. `unreadable` is answered, and nothing is written, where bytes encode no state, a command's number is above 7, or a
--- buffer is too short.
+-- state's buffer is of another length.
 
 abbrev pub unreadable : ℕ
 unreadable = 255
@@ -139,6 +153,16 @@ unreadable = 255
 -- One answer as a number: number, id and cycles in 8, 16 and 16 binary digits.
 abbrev pub packed : Answer → ℕ
 packed a = a .number + 256 * (a .id .0 + 65536 * a .cycles)
+
+-- Its parts, from the number.
+abbrev pub numberIn : ℕ → ℕ
+numberIn x = x % 256
+
+abbrev pub idIn : ℕ → ℕ
+idIn x = x / 256 % 65536
+
+abbrev pub cyclesIn : ℕ → ℕ
+cyclesIn x = x / 16777216
 
 -- What a call answers, and what the host's state bytes then are.
 pub record Call : Type 0 where
@@ -148,15 +172,20 @@ pub record Call : Type 0 where
 abbrev pub callOf : ℕ → List ℕ → Call
 callOf result bytes = record { result = result; bytes = bytes }
 
+-- A fresh controller's bytes. Sizes out of range are refused as by value, and the bytes lent stay as they were.
 unfoldable pub makeCall : ℕ → ℕ → List ℕ → Call
 makeCall n m b =
-    cond (eqb (length b) stateSize) (callOf (packed (make n m)) (stateBytes ((make n m) .state))) (callOf unreadable b)
+    cond (eqb (length b) stateSize)
+    (callOf (packed (make n m)) (cond (eqb ((make n m) .number) 0) (stateBytes ((make n m) .state)) b))
+    (callOf unreadable b)
+
+-- A command on bytes that encode a state.
+abbrev pub executedOn : List ℕ → Decoded → Call
+executedOn b Unknown = callOf unreadable b
+executedOn b (Known c) = callOf (packed (execute (stateFrom b) c)) (stateBytes ((execute (stateFrom b) c) .state))
 
 unfoldable pub executeCall : ℕ → ℕ → ℕ → List ℕ → Call
-executeCall number at p b =
-    cond (isState b && ltb number 8)
-    (callOf (packed (execute (stateFrom b) (commandOf number at p))) (stateBytes ((execute (stateFrom b) (commandOf number at p)) .state)))
-    (callOf unreadable b)
+executeCall number at p b = cond (isState b) (executedOn b (commandOf number at p)) (callOf unreadable b)
 
 -- The run of a list: how many commands were taken, the state after them, and their answers in the front of the answers' buffer.
 pub record RunCall : Type 0 where
@@ -171,10 +200,12 @@ runCallOf result bytes answers = record { result = result; bytes = bytes; answer
 abbrev pub noCount : ℕ
 noCount = 18446744073709551615
 
--- The list has whole commands, and an answer for each fits.
+-- The list has whole commands, and an answer for each has room.
+abbrev pub roomFor : List ℕ → List ℕ → Bool
+roomFor commands answers = eqb (length commands % commandSize) 0 && leb (length commands / commandSize * answerSize) (length answers)
+
 abbrev pub fitsRun : List ℕ → List ℕ → List ℕ → Bool
-fitsRun b commands answers =
-    isState b && eqb (length commands % commandSize) 0 && leb (length commands / commandSize * answerSize) (length answers)
+fitsRun b commands answers = isState b && roomFor commands answers
 
 unfoldable pub runCall : List ℕ → List ℕ → List ℕ → RunCall
 runCall b commands answers =

@@ -421,12 +421,51 @@ lowestId =
       owners = sight 5 (byBox 0) ∷ sight 7 bySource ∷ [];
     }
 
+-- mask answers no id
+maskAnswersNone : Case
+maskAnswersNone =
+    record {
+      before = [];
+      command = Mask (sourceId 4);
+      number = 0;
+      id = 0;
+      cycles = 0;
+      currents = 0 ∷ 0 ∷ [];
+      owners = [];
+    }
+
+-- a masked request that waits: unmask delivers it, and answers no id
+unmaskAnswersNone : Case
+unmaskAnswersNone =
+    record {
+      before = Mask (sourceId 4) ∷ trigger 4 ∷ [];
+      command = Unmask (sourceId 4);
+      number = 0;
+      id = 0;
+      cycles = 1;
+      currents = 4 ∷ 0 ∷ [];
+      owners = sight 4 (byBox 0) ∷ [];
+    }
+
+-- complete leaves the mask: the next request waits
+maskOutlivesRequest : Case
+maskOutlivesRequest =
+    record {
+      before = trigger 4 ∷ claim 0 ∷ Mask (sourceId 4) ∷ complete 4 ∷ [];
+      command = trigger 4;
+      number = 0;
+      id = 0;
+      cycles = 0;
+      currents = 4 ∷ 0 ∷ [];
+      owners = sight 4 bySource ∷ [];
+    }
+
 -- T1 to T12, in the table's order.
 unfoldable pub marked : List Case
 unfolding t1 t2 t3 t4 t5 t5again t6 t7 t8 t9 t9then t10 t11 t12 sourcePriority corePriority trigger claim redeliver complete sight
 marked = t1 ∷ t2 ∷ t3 ∷ t4 ∷ t5 ∷ t5again ∷ t6 ∷ t7 ∷ t8 ∷ t9 ∷ t9then ∷ t10 ∷ t11 ∷ t12 ∷ []
 
--- Further rows of the table, and the rule for a tie between requests.
+-- Further rows of the table, the rule for a tie between requests, and what mask, unmask and complete leave alone.
 unfoldable pub further : List Case
-unfolding ownPriority topAccepted aboveTop zeroPriority coreZero coreAboveTop sourceFirst noSuchCore maskedInBox maskedRetracted lowestId sourcePriority corePriority trigger claim redeliver complete sight
-further = ownPriority ∷ topAccepted ∷ aboveTop ∷ zeroPriority ∷ coreZero ∷ coreAboveTop ∷ sourceFirst ∷ noSuchCore ∷ maskedInBox ∷ maskedRetracted ∷ lowestId ∷ []
+unfolding ownPriority topAccepted aboveTop zeroPriority coreZero coreAboveTop sourceFirst noSuchCore maskedInBox maskedRetracted lowestId maskAnswersNone unmaskAnswersNone maskOutlivesRequest sourcePriority corePriority trigger claim redeliver complete sight
+further = ownPriority ∷ topAccepted ∷ aboveTop ∷ zeroPriority ∷ coreZero ∷ coreAboveTop ∷ sourceFirst ∷ noSuchCore ∷ maskedInBox ∷ maskedRetracted ∷ lowestId ∷ maskAnswersNone ∷ unmaskAnswersNone ∷ maskOutlivesRequest ∷ []

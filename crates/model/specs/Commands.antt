@@ -22,6 +22,7 @@ use Rattle.model.specs.Priorities.{topPriority}
 use Rattle.model.specs.Requests.{claimed}
 use Rattle.model.specs.WellFormed.{between, sizesInRange, wellFormed}
 use Rattle.model.specs.Settling.{settle, cyclesOf}
+use Rattle.model.specs.Behaviours.{runBy}
 
 -- ---- the effect before settling
 
@@ -122,6 +123,5 @@ execute s c = cond (eqb (refusal s c) 0) (settled (effect s c) (answeredId s c))
 unfoldable pub make : ℕ → ℕ → Answer
 make n m = cond (sizesInRange n m) (answer (reset n m) 0 0 0) (answer (reset 1 1) badSize 0 0)
 
-unfoldable pub run : Controller → List Command → Controller
-run s [] = s
-run s (c ∷ cs) = run ((execute s c) .state) cs
+abbrev pub run : Controller → List Command → Controller
+run s cs = runBy execute s cs

@@ -1,42 +1,55 @@
--- A list of commands as numbers. Definitions only. Assumes nothing.
+-- A command as three numbers. Definitions only. Assumes nothing.
 -- Source: document 01's numbers 0 to 7 of the commands ("The bus monitor's text").
--- A command is three numbers: its own, 0 to 7; the id or the core; and the priority, which only 0 and 3 use.
---   decode ws      the commands up to the first that cannot be read: a number above 7, or fewer than three numbers left
---   isWhole ws     every command could be read
---   ranOf s ws     the run of those commands
+-- The numbers are the command's own, 0 to 7; the id or the core; and the priority, which only 0 and 3 use.
+--   commandOf number at p                the command that they name; a number above 7 names none
+--   numberOf c, targetOf c, levelOf c    the numbers of a command; one without a priority has 0 there
 use Prim.Native.Nat.{ℕ}
-use mathlib.Core.List.{List, [], _∷_}
-use mathlib.Core.Bool.{Bool, true, false, cond}
-use lib.ListN.{length}
-use lib.Dec.{ltb, eqb}
-use Rattle.model.specs.declared.Controller.{Controller}
-use Rattle.model.specs.declared.Ran.{Ran}
+use mathlib.Core.Bool.{cond}
+use lib.Dec.{eqb}
 use Rattle.model.specs.declared.Command.{Command}
 use Rattle.model.specs.declared.Command.the-variants.{SetSourcePriority, Mask, Unmask, SetCorePriority, Trigger, Claim, Redeliver, Complete}
+use Rattle.model.specs.declared.Decoded.{Decoded}
+use Rattle.model.specs.declared.Decoded.the-variants.{Unknown, Known}
 use Rattle.model.specs.Records.{sourceId, coreId}
-use Rattle.model.specs.Commands.{run}
 
--- The command of a number 0 to 7.
-unfoldable pub commandOf : ℕ → ℕ → ℕ → Command
+unfoldable pub commandOf : ℕ → ℕ → ℕ → Decoded
 commandOf number at p =
-    cond (eqb number 0) (SetSourcePriority (sourceId at) p)
-    (cond (eqb number 1) (Mask (sourceId at))
-    (cond (eqb number 2) (Unmask (sourceId at))
-    (cond (eqb number 3) (SetCorePriority (coreId at) p)
-    (cond (eqb number 4) (Trigger (sourceId at))
-    (cond (eqb number 5) (Claim (coreId at)) (cond (eqb number 6) (Redeliver (sourceId at)) (Complete (sourceId at))))))))
+    cond (eqb number 0) (Known (SetSourcePriority (sourceId at) p))
+    (cond (eqb number 1) (Known (Mask (sourceId at)))
+    (cond (eqb number 2) (Known (Unmask (sourceId at)))
+    (cond (eqb number 3) (Known (SetCorePriority (coreId at) p))
+    (cond (eqb number 4) (Known (Trigger (sourceId at)))
+    (cond (eqb number 5) (Known (Claim (coreId at)))
+    (cond (eqb number 6) (Known (Redeliver (sourceId at)))
+    (cond (eqb number 7) (Known (Complete (sourceId at))) Unknown)))))))
 
-unfoldable pub decode : List ℕ → List Command
-decode [] = []
-decode (number ∷ []) = []
-decode (number ∷ at ∷ []) = []
-decode (number ∷ at ∷ p ∷ rest) = cond (ltb number 8) (commandOf number at p ∷ decode rest) []
+abbrev pub numberOf : Command → ℕ
+numberOf (SetSourcePriority id p) = 0
+numberOf (Mask id) = 1
+numberOf (Unmask id) = 2
+numberOf (SetCorePriority k p) = 3
+numberOf (Trigger id) = 4
+numberOf (Claim k) = 5
+numberOf (Redeliver id) = 6
+numberOf (Complete id) = 7
 
-unfoldable pub isWhole : List ℕ → Bool
-isWhole [] = true
-isWhole (number ∷ []) = false
-isWhole (number ∷ at ∷ []) = false
-isWhole (number ∷ at ∷ p ∷ rest) = cond (ltb number 8) (isWhole rest) false
+-- the source's id or the core's number
+abbrev pub targetOf : Command → ℕ
+targetOf (SetSourcePriority id p) = id .0
+targetOf (Mask id) = id .0
+targetOf (Unmask id) = id .0
+targetOf (SetCorePriority k p) = k .0
+targetOf (Trigger id) = id .0
+targetOf (Claim k) = k .0
+targetOf (Redeliver id) = id .0
+targetOf (Complete id) = id .0
 
-abbrev pub ranOf : Controller → List ℕ → Ran
-ranOf s ws = record { state = run s (decode ws); taken = length (decode ws); whole = isWhole ws }
+abbrev pub levelOf : Command → ℕ
+levelOf (SetSourcePriority id p) = p
+levelOf (Mask id) = 0
+levelOf (Unmask id) = 0
+levelOf (SetCorePriority k p) = p
+levelOf (Trigger id) = 0
+levelOf (Claim k) = 0
+levelOf (Redeliver id) = 0
+levelOf (Complete id) = 0

@@ -1,7 +1,9 @@
 -- The ledger of a list of commands, and what is read off it. Definitions only. Assumes nothing.
 -- Source: document 01, "The list and the book". Document 01's word is "book".
 --   post b e                 the ledger after one entry: a command with the number and id that it answered, nothing else
---   competes n b s id        the request of id 1 to n is open, and lies in a box of s or waits unmasked
+--   answersTo s cs           what a list of commands answers; `answersBy` of any behaviour
+--   entries s cs             each command of a list with the number and id that it answered
+--   competes n m b s id      the request of id 1 to n is open, and lies in a box of cores 0 to m - 1 of s or waits unmasked
 --   collection n m b s       every core's configured priority, and the priority of every request that competes
 --   Placement n m b s P      P gives each core k below m a request P k, or none (0)
 --   sortDown l               l sorted from the top, repeats kept
@@ -12,12 +14,14 @@ use mathlib.Core.List.{List, [], _∷_, _++_}
 use mathlib.Core.Bool.{Bool, true, false, not, _&&_, _||_, cond}
 use lib.Dec.{ltb, eqb}
 use Rattle.model.specs.declared.Controller.{Controller}
+use Rattle.model.specs.declared.Answer.{Answer}
 use Rattle.model.specs.declared.Command.{Command}
 use Rattle.model.specs.declared.Command.the-variants.{SetSourcePriority, Mask, Unmask, SetCorePriority, Trigger, Claim, Redeliver, Complete}
 use Rattle.model.specs.Records.{coreAt}
 use Rattle.model.specs.Requests.{currentPriority, boxed}
 use Rattle.model.specs.WellFormed.{between}
 use Rattle.model.specs.Commands.{execute}
+use Rattle.model.specs.Behaviours.{Behaviour, answersBy}
 
 -- ---- the ledger
 
@@ -92,13 +96,27 @@ unfoldable pub ledger : Ledger → List Entry → Ledger
 ledger b [] = b
 ledger b (e ∷ es) = ledger (post b e) es
 
-abbrev pub entryOf : Controller → Command → Entry
-entryOf s c = record { command = c; number = (execute s c) .number; id = (execute s c) .id .0 }
+abbrev pub entryWith : Command → ℕ → ℕ → Entry
+entryWith c number id = record { command = c; number = number; id = id }
 
--- What a list of commands answers, each getting the state that the one before handed back.
-unfoldable pub entries : Controller → List Command → List Entry
-entries s [] = []
-entries s (c ∷ cs) = entryOf s c ∷ entries ((execute s c) .state) cs
+-- Each command with the number and the id that it answered.
+unfoldable pub paired : List Command → List Answer → List Entry
+paired [] answers = []
+paired (c ∷ cs) [] = []
+paired (c ∷ cs) (a ∷ answers) = entryWith c (a .number) (a .id .0) ∷ paired cs answers
+
+-- What goes into the ledger, of any behaviour; and of the commands as defined.
+abbrev pub entriesBy : Behaviour → Controller → List Command → List Entry
+entriesBy x s cs = paired cs (answersBy x s cs)
+
+abbrev pub entryOf : Controller → Command → Entry
+entryOf s c = entryWith c ((execute s c) .number) ((execute s c) .id .0)
+
+abbrev pub answersTo : Controller → List Command → List Answer
+answersTo s cs = answersBy execute s cs
+
+abbrev pub entries : Controller → List Command → List Entry
+entries s cs = entriesBy execute s cs
 
 -- ---- the collection, and placements
 

@@ -6,13 +6,18 @@
 --   Arbitration   the highest candidate and the least core
 --   WellFormed    the sound-state test, clause by clause, and the same as a proposition
 --   Settling      one retraction, one delivery, and the run of cycles with its count
+--   Behaviours    any answer to commands in the place of `execute`, and what a list of commands gives by it
 --   Commands      effects, refusals, answers, making, and the run of a list of commands
 --   Ledger        the ledger kept from commands and their answers; collection, placement, sorting
 --   Statements    what is claimed of all this, as propositions; their proofs are in the crates above this one
 --   Cases         the worked cases of document 01's table of runs
---   Encoding      a list of commands as numbers
+--   StateCases    worked states: fresh, broken beside sound, and with dirty boxes
+--   LedgerCases   worked pages of the ledger, a collection, placements
+--   Encoding      a command as numbers
 --   Borrowed      the two calls on records that the host lends
+--   LentCases     worked cases of these two calls
 --   Bytes         a state, commands and answers as bytes
+--   BytesCases    worked cases of them
 pub mod Records
 pub mod Priorities
 pub mod Walks
@@ -20,10 +25,15 @@ pub mod Requests
 pub mod Arbitration
 pub mod WellFormed
 pub mod Settling
+pub mod Behaviours
 pub mod Commands
 pub mod Ledger
 pub mod Statements
 pub mod Cases
+pub mod StateCases
+pub mod LedgerCases
 pub mod Encoding
 pub mod Borrowed
+pub mod LentCases
 pub mod Bytes
+pub mod BytesCases

@@ -4,8 +4,9 @@
 --                       same record; a source after a reset is not: its configured priority is 1 and it is masked.
 --   sourceAt s i        the source with id i + 1
 --   coreAt s k          core k
+--   bare s              what settling leaves alone
 use Prim.Native.Nat.{ℕ, pred}
-use mathlib.Core.List.{List}
+use mathlib.Core.List.{List, map}
 use mathlib.Core.Bool.{Bool, true, false}
 use lib.ListN.{getD, set, replicate}
 use Rattle.model.specs.declared.SourceId.{SourceId}
@@ -92,6 +93,10 @@ noCore = coreWith 0 emptyBox
 abbrev pub resetCore : Core
 resetCore = coreWith 0 emptyBox
 
+-- its box emptied
+abbrev pub emptied : Core → Core
+emptied c = coreWith (c .configured) emptyBox
+
 -- ---- the controller
 
 abbrev pub sourceAt : Controller → ℕ → Source
@@ -114,6 +119,10 @@ withSource s i r = withSources s (set (s .sources) i r)
 
 abbrev pub withCore : Controller → ℕ → Core → Controller
 withCore s k c = withCores s (set (s .cores) k c)
+
+-- All but the boxes and the delivered marks: every box empty, every mark off.
+abbrev pub bare : Controller → Controller
+bare s = controllerWith (s .n) (s .m) (map (withDelivered false) (s .sources)) (map emptied (s .cores))
 
 -- Document 01: "fresh".
 abbrev pub reset : ℕ → ℕ → Controller

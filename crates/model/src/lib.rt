@@ -65,6 +65,12 @@ pub enum Command {
     Complete(SourceId),
 }
 
+// What three numbers name: a command, or none.
+pub enum Decoded {
+    Unknown,
+    Known(Command),
+}
+
 // What every call answers: the state handed back, document 01's number (0 is success),
 // the claimed id (0 for every other call), and the cycles of settling.
 pub struct Answer {
@@ -72,14 +78,6 @@ pub struct Answer {
     pub number: u8,
     pub id: SourceId,
     pub cycles: u16,
-}
-
-// What the run of a list of commands answers: the state after the commands that could be read, how many those were, and whether
-// they were all.
-pub struct Ran {
-    pub state: Controller,
-    pub taken: usize,
-    pub whole: bool,
 }
 
 // What the search over a lent list answers: document 01's number, and the position plus one of the first highest candidate, 0 for

@@ -22,13 +22,13 @@ use Rattle.settling.proofs.Writes.{deliver-sizes}
 use Rattle.settling.proofs.Arbitrated.{Arbitrated}
 use Rattle.settling.proofs.Deliver.{deliver-consistent, deliver-delivering}
 use Rattle.settling.proofs.Run.{settle-rest, count-rest}
-use Rattle.settling.proofs.Forward.{settle-add, cyclesOf-add, Ran, ran-none, ran-more}
+use Rattle.settling.proofs.Forward.{settle-add, cyclesOf-add, cyclesOf-le, Ran, ran-none, ran-more}
 use Rattle.settling.proofs.Deliveries.{deliveries-end}
 use Rattle.settling.proofs.Keyed.{Keyed, source-in, core-in, current-small, rests, delivers, arbitrated}
 use Rattle.settling.proofs.Stores.{PutBack, stores-are, keyed-delivered}
 
 pub record Delivered (s : Controller) (ks cs : List ℕ) (state : Controller) (t : ℕ) : Type 0 where
-  pub ran : Ran s state t
+  pub ran : Ran isDelivery s state t
   pub consistent : Consistent state
   pub delivering : Delivering state
   pub keyed : Keyed state ks cs
@@ -39,7 +39,7 @@ pub record Delivered (s : Controller) (ks cs : List ℕ) (state : Controller) (t
 pub delivered-none : (s : Controller) (ks cs : List ℕ) → Consistent s → Delivering s → RanksOf (s .sources) (s .n) ks → CurrentsOf (s .cores) (s .m) cs → length ks ≡ maxSources → length cs ≡ maxCores → Delivered s ks cs s 0
 delivered-none s ks cs c d ranks currents e e′ =
     record {
-      ran = ran-none s;
+      ran = ran-none isDelivery s;
       consistent = c;
       delivering = d;
       keyed = record { ranks = ranks; currents = currents; keys-length = e; currents-length = e′ };
@@ -101,9 +101,10 @@ cyclesOf-rest s rest f = omega (arith, count-rest s rest isRetraction refl f, co
 module _ {s state : Controller} {ks cs : List ℕ} {t : ℕ} (r : Delivered s ks cs state t) (id spent : ℕ) where
   -- f more cycles change nothing
   answered : next state ≡ Rest → (f : ℕ) → answer state 0 id (spent + t) ≡ answer (settle (t + f) s) 0 id (spent + cyclesOf (t + f) s)
+  unfolding cyclesOf
   answered rest f =
       let state-there : settle (t + f) s ≡ state = rw (settle-add, ← r .ran .state-is) (settle-rest state rest f) in
-      let cycles-there : cyclesOf (t + f) s ≡ t = rw (cyclesOf-add, ← r .ran .state-is) (omega (arith, r .ran .counted, cyclesOf-rest state rest f)) in
+      let cycles-there : cyclesOf (t + f) s ≡ t = rw (cyclesOf-add, ← r .ran .state-is) (omega (arith, r .ran .counted, cyclesOf-le t s, cyclesOf-rest state rest f)) in
       rw (state-there, cycles-there)
 
   pub delivered-rest : next state ≡ Rest → AfterDeliveries s id spent (answer state 0 id (spent + t))

@@ -1,13 +1,15 @@
 -- A run of cycles cut in two: the state after a + b cycles is that after b more cycles, and what was counted adds up. Assumes nothing.
---   settle-add, cyclesOf-add    the two laws
---   Ran s state t               state is s after t cycles, none of them at rest: what both loops of settling keep
---   ran-none, ran-more          no cycle, and one cycle more
-use Prim.Native.Nat.{ℕ, zero, suc, _+_}
+--   settle-add, countOf-add, cyclesOf-add    the laws
+--   cyclesOf-le                              a cycle counts at most once, so where each is of one kind nothing else is counted
+--   Ran kind s state t                       state is s after t cycles, each of that kind: what both loops of settling keep
+--   ran-none, ran-more                       no cycle, and one cycle more
+use Prim.Native.Nat.{ℕ, zero, suc, _+_, _≤_}
 use mathlib.Core.Path.{_≡_, refl, sym, ap, _∙_}
 use native.Mathlib.Omega.{arith}
 use native.Mathlib.Nat.{zero-add, suc-add}
 use Rattle.model.specs.declared.Controller.{Controller}
 use Rattle.model.specs.declared.Cycle.{Cycle}
+use Rattle.model.specs.declared.Cycle.the-variants.{Rest, Retract, Deliver}
 use Rattle.model.specs.Settling.{next, apply, cycle, settle, isRetraction, isDelivery, countOf, cyclesOf}
 use Rattle.settling.proofs.Run.{cycle-is}
 
@@ -16,7 +18,7 @@ unfolding settle
 settle-add zero b s = rw zero-add
 settle-add (suc a) b s = rw suc-add (settle-add a b (cycle s))
 
-countOf-add : (kind : Cycle → ℕ) (a b : ℕ) (s : Controller) → countOf kind (a + b) s ≡ countOf kind a s + countOf kind b (settle a s)
+pub countOf-add : (kind : Cycle → ℕ) (a b : ℕ) (s : Controller) → countOf kind (a + b) s ≡ countOf kind a s + countOf kind b (settle a s)
 unfolding settle countOf
 countOf-add kind zero b s = rw (zero-add b) (omega arith)
 countOf-add kind (suc a) b s = rw suc-add (omega (arith, countOf-add kind a b (cycle s)))
@@ -25,24 +27,36 @@ pub cyclesOf-add : (a b : ℕ) (s : Controller) → cyclesOf (a + b) s ≡ cycle
 unfolding cyclesOf
 cyclesOf-add a b s = omega (arith, countOf-add isRetraction a b s, countOf-add isDelivery a b s)
 
--- ---- a run that moves in every cycle
+-- ---- a cycle counts at most once
 
-pub record Ran (s state : Controller) (t : ℕ) : Type 0 where
-  pub state-is : state ≡ settle t s
-  pub counted : cyclesOf t s ≡ t
+one-kind : (c : Cycle) → isRetraction c + isDelivery c ≤ 1
+one-kind Rest = omega arith
+one-kind (Retract k) = omega arith
+one-kind (Deliver id k) = omega arith
 
-pub ran-none : (s : Controller) → Ran s s 0
-unfolding settle countOf cyclesOf
-ran-none s = record { state-is = refl; counted = refl }
-
-cyclesOf-one : (s : Controller) → cyclesOf 1 s ≡ isRetraction (next s) + isDelivery (next s)
+pub cyclesOf-le : (t : ℕ) (s : Controller) → cyclesOf t s ≤ t
 unfolding countOf cyclesOf
-cyclesOf-one s = omega arith
+cyclesOf-le zero s = omega arith
+cyclesOf-le (suc t) s = omega (arith, one-kind (next s), cyclesOf-le t (cycle s))
 
-pub ran-more : {s state : Controller} {t : ℕ} → Ran s state t → (c : Cycle) → next state ≡ c → isRetraction c + isDelivery c ≡ 1 → Ran s (apply c state) (t + 1)
+-- ---- a run of cycles of one kind
+
+pub record Ran (kind : Cycle → ℕ) (s state : Controller) (t : ℕ) : Type 0 where
+  pub state-is : state ≡ settle t s
+  pub counted : countOf kind t s ≡ t
+
+pub ran-none : (kind : Cycle → ℕ) (s : Controller) → Ran kind s s 0
+unfolding settle countOf
+ran-none kind s = record { state-is = refl; counted = refl }
+
+countOf-one : (kind : Cycle → ℕ) (s : Controller) → countOf kind 1 s ≡ kind (next s)
+unfolding countOf
+countOf-one kind s = omega arith
+
+pub ran-more : {kind : Cycle → ℕ} {s state : Controller} {t : ℕ} → Ran kind s state t → (c : Cycle) → next state ≡ c → kind c ≡ 1 → Ran kind s (apply c state) (t + 1)
 unfolding settle
-ran-more {s} {state} {t} r c e moves =
+ran-more {kind} {s} {state} {t} r c e counts =
     record {
       state-is = rw settle-add (sym (cycle-is state c e) ∙ ap cycle (r .state-is));
-      counted = rw (cyclesOf-add, ← r .state-is, cyclesOf-one, e) (omega (arith, r .counted));
+      counted = rw (countOf-add, ← r .state-is, countOf-one, e) (omega (arith, r .counted));
     }

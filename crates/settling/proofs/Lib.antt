@@ -13,6 +13,7 @@ pub mod Filling
 pub mod Deliveries
 pub mod Retractions
 pub mod Retracting
+pub mod Determined
 pub mod Ends
 pub mod Keyed
 pub mod Stores

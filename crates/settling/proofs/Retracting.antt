@@ -14,17 +14,17 @@ use Rattle.model.specs.declared.Core.{Core}
 use Rattle.model.specs.declared.Controller.{Controller}
 use Rattle.model.specs.declared.Cycle.the-variants.{Retract}
 use Rattle.model.specs.Records.{coreId, emptyBox, coreWith, withDelivered, withSource, withCore, sourceAt, coreAt}
-use Rattle.model.specs.Settling.{retract}
+use Rattle.model.specs.Settling.{retract, isRetraction}
 use Rattle.settling.specs.Phases.{Holding, Consistent, AllDirty}
 use Rattle.settling.specs.Runs.{AfterRetractions}
 use Rattle.settling.proofs.Writes.{core-retract-same, core-retract-other, retract-sizes}
 use Rattle.settling.proofs.Retract.{retract-consistent, retract-allDirty}
 use Rattle.settling.proofs.Next.{Clean, next-retract}
-use Rattle.settling.proofs.Forward.{settle-add, cyclesOf-add, Ran, ran-none, ran-more}
+use Rattle.settling.proofs.Forward.{Ran, ran-none, ran-more}
 use Rattle.settling.proofs.Retractions.{clean-delivering, dirty-filled}
 
 pub record Retracting (s state : Controller) (cycles k : ℕ) : Type 0 where
-  pub ran : Ran s state cycles
+  pub ran : Ran isRetraction s state cycles
   pub consistent : Consistent state
   pub all-dirty : AllDirty state
   pub within : k ≤ s .m
@@ -36,7 +36,7 @@ pub record Retracting (s state : Controller) (cycles k : ℕ) : Type 0 where
 pub retracting-none : (s : Controller) → Consistent s → AllDirty s → Retracting s s 0 0
 retracting-none s c all =
     record {
-      ran = ran-none s;
+      ran = ran-none isRetraction s;
       consistent = c;
       all-dirty = all;
       within = omega arith;
@@ -111,11 +111,11 @@ module _ (s state : Controller) (cycles k : ℕ) (r : Retracting s state cycles 
 pub retracting-all : (s state : Controller) (cycles k : ℕ) → Retracting s state cycles k → s .m ≤ k → AfterRetractions s (record { state = state; cycles = cycles })
 retracting-all s state cycles k r h =
     record {
+      state-is = r .ran .state-is;
+      each-retracts = r .ran .counted;
       consistent = r .consistent;
       delivering = clean-delivering (r .all-dirty) (λ j p. r .clean j (omega arith));
       n-same = r .n-same;
       m-same = r .m-same;
       cycles-le = omega arith;
-      settles = λ f. rw (r .ran .state-is) (settle-add cycles f s);
-      counts = λ f. rw (r .ran .state-is) (omega (arith, cyclesOf-add cycles f s, r .ran .counted));
     }

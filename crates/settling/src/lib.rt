@@ -45,7 +45,8 @@ fn current_priorities(cores: [Core; CORES], m: usize) -> [u16; CORES]
     currents
 }
 
-// Step 1, to its end: one dirty box a cycle, lowest core first. Its source becomes waiting, the box empty.
+// Step 1, to its end: one dirty box a cycle, lowest core first. Its source becomes waiting, the box empty. The contract fixes the
+// answer (`RetractionsDetermined`).
 // Rules out: a retracted request that stays delivered (`retracted_kept`); a retraction that is not counted (`retraction_free`).
 pub fn retract_all(s: Controller) -> Retracted
     requires { ⌜ Consistent s × AllDirty s ⌝ }

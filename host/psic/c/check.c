@@ -68,9 +68,8 @@ static void refusals(void) {
     expect(answers(psic_set_source_priority(&state, psic_source_id_of(4), 128), PSIC_BAD_PRIORITY, 0, 0), "5");
     expect(psic_execute(state.bytes, sizeof state.bytes, 8, 4, 0) == PSIC_UNREADABLE, "a command's number above 7: 255");
     expect(psic_execute(state.bytes, sizeof state.bytes - 1, PSIC_TRIGGER, 4, 0) == PSIC_UNREADABLE, "a short buffer: 255");
-    expect(memcmp(&state, &before, sizeof state) == 0, "a refusal leaves the state as it was");
     expect(psic_init(&state, 129, 2).number == PSIC_BAD_SIZE, "129 sources: 2");
-    start(&state);
+    expect(memcmp(&state, &before, sizeof state) == 0, "a refusal leaves the state as it was");
     psic_trigger(&state, psic_source_id_of(4));
     expect(answers(psic_trigger(&state, psic_source_id_of(4)), PSIC_PENDING, 0, 0), "T12: 6");
     state.bytes[0] = 0; /* no sources */

@@ -203,6 +203,21 @@ fn a_number_above_7_is_no_command() {
     }
 }
 
+#[test]
+fn a_refused_make_leaves_the_buffer_as_it_was() {
+    for given in [
+        vec![0; STATE_SIZE],
+        vec![255; STATE_SIZE],
+        bytes_of(&Controller::reset(3, 2)),
+    ] {
+        let mut state = given.clone();
+        for (n, m) in [(0, 1), (1, 0), (129, 1), (1, 33), (0, 0), (65535, 65535)] {
+            assert_eq!(raw::make(n, m, &mut state), 2);
+            assert_eq!(state, given);
+        }
+    }
+}
+
 /// What lies behind the answers of a list stays, and so does the state if every command is refused.
 #[test]
 fn a_refused_list_leaves_the_state_and_the_rest_of_the_answers() {

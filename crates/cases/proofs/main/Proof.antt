@@ -31,14 +31,17 @@ array-read-at c = search needs
 array-read-priority : tie.Need-array-read-priority Inv-loop μ-loop
 array-read-priority c = search needs
 
+command-requires : tie.Need-command-requires Inv-loop μ-loop
+command-requires c κs = search needs
+
+enum-known-c : tie.Need-enum-known-c Inv-loop μ-loop
+enum-known-c c = search needs
+
 array-read-label : tie.Need-array-read-label Inv-loop μ-loop
 array-read-label c = search needs
 
 label-requires : tie.Need-label-requires Inv-loop μ-loop
 label-requires c κs = search needs
-
-command-requires : tie.Need-command-requires Inv-loop μ-loop
-command-requires c κs = search needs
 
 command-requires-2 : tie.Need-command-requires-2 Inv-loop μ-loop
 command-requires-2 c κs = search needs
@@ -49,8 +52,8 @@ execute-requires c κs = search needs
 answer-requires : tie.Need-answer-requires Inv-loop μ-loop
 answer-requires c κs = search needs
 
-array-read-if2 : tie.Need-array-read-if2 Inv-loop μ-loop
-array-read-if2 c = search needs
+array-read-if1 : tie.Need-array-read-if1 Inv-loop μ-loop
+array-read-if1 c = search needs
 
 as-wanted-requires : tie.Need-as-wanted-requires Inv-loop μ-loop
 as-wanted-requires c κs = search needs
@@ -66,6 +69,9 @@ one-more-requires-2 c κs = search needs
 
 line-end-requires : tie.Need-line-end-requires Inv-loop μ-loop
 line-end-requires c κs = search needs
+
+enum-told : tie.Need-enum-told Inv-loop μ-loop
+enum-told c = search needs
 
 start-requires-2 : tie.Need-start-requires-2 Inv-loop μ-loop
 start-requires-2 c κs = search needs
@@ -107,18 +113,20 @@ main-spec =
     array-read-kind
     array-read-at
     array-read-priority
+    command-requires
+    enum-known-c
     array-read-label
     label-requires
-    command-requires
     command-requires-2
     execute-requires
     answer-requires
-    array-read-if2
+    array-read-if1
     as-wanted-requires
     verdict-requires
     one-more-requires
     one-more-requires-2
     line-end-requires
+    enum-told
     start-requires-2
     start-requires-3
     make-requires

@@ -29,7 +29,7 @@ readable :
     isState (c .before .before .before .before .before .before .before .before .args .state .now) ≡ true
 readable c = let is = c .before .is-state in sym (is .ensures) ∙ not-false (is .result) (c .if3 .left)
 
--- past the loop, no command is left: the list has ended, or the next number is above 7
+-- past the loop, no command is left: the list has ended, or the next bytes name none
 none-left :
     (c : tie.Left-loop Inv-loop μ-loop) →
     left (c .before .before .before .before .before .before .before .before .before .before .before .before .args .list .now)
@@ -39,7 +39,9 @@ none-left c =
     let l = c .before .loop in
     let whole = more-left (a .list .now) (a .answers .now) (c .before .before .state-from .result) (l .answers) (l .s) (l .i) (l .inv) in
     ⊎-elim (λ w. commands-end (a .list .now) (l .i) (w .left))
-    (λ w. commands-bad (a .list .now) (l .i) (whole (w .0 .taken)) (omega (arith, w .2 .taken)))
+    (λ w.
+    let read = command-read (a .list .now) (l .i) (w .2 .result) (w .3 .result) (w .4 .result) (w .2 .ensures) (w .3 .ensures) (w .4 .ensures) in
+    commands-bad (a .list .now) (l .i) (whole (w .0 .taken)) (read ∙ w .6 .given .1))
     (c .loop-test .came)
 
 returns : tie.Need-returns Inv-loop μ-loop
@@ -77,11 +79,11 @@ loop-holds c =
     let tested = c .before .before .before .before .before in
     taken-none (a .list .now) (a .answers .now) (c .state-from .result) (tested .before .if1 .left) (tested .if2 .left)
 
-shared-slice-read-kind : tie.Need-shared-slice-read-kind Inv-loop μ-loop
-shared-slice-read-kind c = omega arith
+shared-slice-read-command : tie.Need-shared-slice-read-command Inv-loop μ-loop
+shared-slice-read-command c = omega arith
 
 cast-command : tie.Need-cast-command Inv-loop μ-loop
-cast-command c = omega arith
+cast-command c = omega (arith, c .shared-slice-known2 .given (c .before .before .loop .i))
 
 add-word-at : tie.Need-add-word-at Inv-loop μ-loop
 add-word-at c = omega arith
@@ -98,6 +100,12 @@ word-at-requires-2 c κs = search needs
 command-requires : tie.Need-command-requires Inv-loop μ-loop
 command-requires c κs = search needs
 
+enum-told : tie.Need-enum-told Inv-loop μ-loop
+enum-told c = search needs
+
+enum-known-read : tie.Need-enum-known-read Inv-loop μ-loop
+enum-known-read c = search needs
+
 execute-requires : tie.Need-execute-requires Inv-loop μ-loop
 execute-requires c κs = search needs
 
@@ -106,7 +114,7 @@ put-answer-requires c κs = search needs
 
 add-i : tie.Need-add-i Inv-loop μ-loop
 add-i c =
-    let turn = c .before .before .before .before .before .before .before .before .before .before .before in
+    let turn = c .before .before .before .before .before .before .before .before .before .before .before .before .before in
     let at = turn .before in
     let start = at .before .before .before .before .before .before .before .before .before .before .before in
     omega (arith, turn .loop-test .taken, at .loop .inv .whole, at .loop .inv .place, start .good)
@@ -117,19 +125,19 @@ loop-less c = omega arith
 loop-again : tie.Need-loop-again Inv-loop μ-loop
 loop-again c =
     let put = c .before .before .before .put-answer in
-    let called = c .before .before .before .before .before in
-    let command = called .before .command in
-    let priority = called .before .before .word-at2 in
-    let target = called .before .before .before .word-at in
-    let tested = called .before .before .before .before in
-    let at = tested .before .before .before in
+    let run = c .before .before .before .before .before in
+    let known = run .before .before in
+    let called = known .before .before in
+    let priority = called .before .word-at2 in
+    let target = called .before .before .word-at in
+    let turn = called .before .before .before .before in
+    let at = turn .before in
     let a = at .before .before .before .before .before .before .before .before .before .before .before .args in
     let l = at .loop in
-    let read = command-read (a .list .now) (l .i) (target .result) (priority .result) (command .result)
-    (target .ensures) (priority .ensures) (command .ensures) in
+    let read = command-read (a .list .now) (l .i) (target .result) (priority .result) (called .command .result)
+    (target .ensures) (priority .ensures) (called .command .ensures) in
     taken-more (a .list .now) (a .answers .now) (at .before .state-from .result) (l .answers) (put .last .0) (l .s) (l .i)
-    (command .result) (called .execute .result) (l .inv) (tested .before .before .loop-test .taken) (tested .if4 .left)
-    read (called .execute .ensures) (put .ensures)
+    _ (run .execute .result) (l .inv) (turn .loop-test .taken) (read ∙ known .read .given .1) (run .execute .ensures) (put .ensures)
 
 put-state-requires : tie.Need-put-state-requires Inv-loop μ-loop
 put-state-requires c κs =
@@ -166,13 +174,15 @@ psic-run-spec =
     returns-3
     state-from-requires
     loop-holds
-    shared-slice-read-kind
+    shared-slice-read-command
     cast-command
     add-word-at
     word-at-requires
     add-word-at-2
     word-at-requires-2
     command-requires
+    enum-told
+    enum-known-read
     execute-requires
     put-answer-requires
     add-i

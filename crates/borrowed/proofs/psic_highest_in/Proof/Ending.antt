@@ -19,8 +19,9 @@ use prog.Routine.{Routine}
 use prog.Wp.{Heap, Tables, afterTurn}
 use ghost.Atoms.{Atoms}
 use contract.Monad.{Fun, fact}
-use types.Kit.{Given, atRet, ‵, raw, _⊛_, some, later, _$_, !, by, move, drop, use1, use2, split, pick, rewrite, fsplit, fjoin, fpick, feqI, await}
-use types.Run.{look, init, forget, stop, from, load, bin, addr, and-then, no-more, assigns, leaves-loop, land, returns, exec, free1, free0}
+use types.Kit.{Given, atRet, ‵, raw, _⊛_, some, later, _$_, !, by, move, drop, use1, use3, split, pick, rewrite, fsplit, fjoin, fpick, feqI, await}
+use types.Run.{look, init, forget, stop, fld, from, load, bin, addr, and-then, no-more, assigns, leaves-loop, land, returns, exec, free1, free0}
+use types.Part.{whole, sub, look-in}
 use types.Tokens.{lft-new, lft-end, lent-back}
 use sound.WpLaws.{fmOf}
 use denote.RattleType.{RattleType}
@@ -31,9 +32,8 @@ use denote.Builtin.{u32}
 use denote.Array.{Array, array-vals, array-tells}
 use denote.ArrayMemory.{array-whole}
 use denote.Ref.{RefT, ShrRef}
-use denote.Slice.{Room}
 use denote.Lend.{lends-shr}
-use denote.Steps.{peeks, heard}
+use denote.Steps.{only, owned, peeks, heard}
 use denote.Struct.Steps.{spelt}
 use denote.Index.{shuts-slice}
 use denote.Struct.Laws as LL
@@ -42,21 +42,27 @@ use denote.Triple.Call.{calls-at}
 use denote.Triple.Clauses.{ensured}
 use Rattle.model.specs.declared.Source.{Source}
 use Rattle.model.specs.declared.Found.{Found}
-use Rattle.borrowed.specs.Keys.{readOf, FoundByKeys}
-use Rattle.borrowed.proofs.Filling.{Filled, all-filled}
+use Rattle.borrowed.specs.declared.Extent.{Extent}
+use Rattle.borrowed.specs.Keys.{extentOf, readOf, FoundByKeys}
+use Rattle.borrowed.proofs.Filling.{Filled, read-inside, all-filled}
 use Rattle.model.proofs.Source as So
 use Rattle.model.proofs.Found as Fo
 use Rattle.model.proofs.Found.Laws as Fo′
+use Rattle.borrowed.proofs.Extent as Ex
+use Rattle.borrowed.proofs.Extent.Laws as Ex′
 use Rattle.borrowed.proofs.search as searched
 use Rattle.borrowed.proofs.search.Symbol.{name as #borrowed·search}
 use Rattle.borrowed.proofs.psic_highest_in.Code.Mir as mir
 use Rattle.borrowed.proofs.psic_highest_in.Proof.Callees.{Keys, Search, to-search, goes-search, search-said}
-use Rattle.borrowed.proofs.psic_highest_in.Proof.Frame.{Blocks, En, Post, exits, Turns}
+use Rattle.borrowed.proofs.psic_highest_in.Proof.Frame.{extents, Blocks, En, Post, exits, Turns}
 
-module _ {M : Type 1} (𝓤 : URA M) (H : Heap 𝓤) (A : Atoms 𝓤) (W : Given 𝓤 H A) (at-mem : Memory → SProp 𝓤) (run : Routine → Fun 𝓤) (κ : Lft) (q : Share) (s : RefT (List Source)) (room : Room So.the-row (length (s .now)))
+module _ {M : Type 1} (𝓤 : URA M) (H : Heap 𝓤) (A : Atoms 𝓤) (W : Given 𝓤 H A) (at-mem : Memory → SProp 𝓤) (run : Routine → Fun 𝓤) (κ : Lft) (q : Share) (s : RefT (List Source)) (spelled : Is Ex.the-row (extentOf (length (s .now))) (extents (extentOf (length (s .now)))))
     (𝓣 : Tables 𝓤 H) (known : Triple 𝓤 (𝓣 .C #borrowed·search) (Search 𝓤 H A at-mem run)) (q′ : Share) (B : Blocks) (f : Filled (s .now)) (test : ltb (f .i) (readOf (length (s .now))) ≡ false) where
   abbrev len : ℕ
   len = length (s .now)
+
+  abbrev x : Extent
+  x = extentOf len
 
   abbrev ks : List ℕ
   ks = f .keys
@@ -70,7 +76,7 @@ module _ {M : Type 1} (𝓤 : URA M) (H : Heap 𝓤) (A : Atoms 𝓤) (W : Given
   pub leaves : Turns 𝓤 H A W at-mem run κ q s 𝓣 q′ B f
   unfolding afterTurn partOf
   leaves =
-      assigns ! (bin ! (load ! (from ! (stop !)) (look ! 20 refl)) (load ! (from ! (stop !)) (look ! 23 refl)) tt) (from ! (stop !)) (init ! 18 refl (tt, tt)) $
+      assigns ! (bin ! (load ! (from ! (stop !)) (look ! 20 refl)) (load ! (from ! (fld ! refl (stop !))) (look-in ! 23 (sub ! 1 refl (whole !)))) tt) (from ! (stop !)) (init ! 18 refl (tt, tt)) $
       rewrite ! 18 (λ (t : Bool). ‵ (fat fullShare tyBool (B .l₆) 0 (vbool t))) test refl $ leaves-loop ! (load ! (from ! (stop !)) (look ! 18 refl)) $
       exec ! (𝓣 .C) (𝓣 .Λ) (En 𝓤 H B) mir.t-6 (atRet (En 𝓤 H B) (Post 𝓤 H A W at-mem run κ q s)) $
       move ! (1 ∷ 31 ∷ []) $ shuts-slice ! tt So.the-row q′ (s .now) (s .ptr .0) (s .ptr .1) $
@@ -79,11 +85,12 @@ module _ {M : Type 1} (𝓤 : URA M) (H : Heap 𝓤) (A : Atoms 𝓤) (W : Given
       move ! (1 ∷ []) $ feqI ! ℕ (length ks) 128 (f .full) $ fjoin ! $ use1 W (‵ (partAt Row fullShare ks (B .l₄) 0)) (array-whole 𝓤 H A W u32 fullShare 128 ks (B .l₄) 0) $
       lft-new ! tt (λ α. move ! (1 ∷ []) $
       use1 W (later (some (λ (γ′ : GName). ‵ (ShrRef (named 0) (α ∷ []) Row .own (lent-keys γ′) (vptr (B .l₄) 0 ∷ [])) ⊛ ‵ (flent (α ∷ []) (partAt Row fullShare ks (B .l₄) 0))))) (lends-shr 𝓤 H A W Row (named 0) (α ∷ []) fullShare ks (B .l₄) 0) $ await ! tt $ pick ! (λ γ′.
-      split ! $ move ! (0 ∷ 2 ∷ []) $ use2 W (raw (Search 𝓤 H A at-mem run .pre (to-search 𝓤 H A at-mem run (α ∷ []) (lent-keys γ′) len))) (goes-search 𝓤 H A at-mem run W (α ∷ []) (lent-keys γ′) len (room .0)) $
+      split ! $ owned ! Ex.the-row (Is Ex.the-row) (LL.makes Ex.the-type Ex′.the-plain 𝓤 H A) x (extents x) spelled $ move ! (1 ∷ 3 ∷ 0 ∷ []) $
+      use3 W (raw (Search 𝓤 H A at-mem run .pre (to-search 𝓤 H A at-mem run (α ∷ []) (lent-keys γ′) x (only (extents x))))) (goes-search 𝓤 H A at-mem run W (α ∷ []) (lent-keys γ′) x (only (extents x)) (read-inside len .1)) $
       -- [what `search` asks; the lender's part; the list's token; _14; …]
-      calls-at ! (fmOf 𝓤 H (W .laws) 𝓣) (Search 𝓤 H A at-mem run) known (to-search 𝓤 H A at-mem run (α ∷ []) (lent-keys γ′) len) (and-then ! (load ! (from ! (stop !)) (look ! 3 refl)) (and-then ! (load ! (from ! (stop !)) (look ! 26 refl)) (no-more !))) (λ u.
-      use1 W (later (some (λ (r : Found). ((‵ (flft (α ∷ []) fullShare) ⊛ ‵ ftrue) ⊛ ‵ (Fo.the-row .own r (u ∷ []))) ⊛ raw (ensured 𝓤 H A searched.ended (searched.clauses 𝓤 H A at-mem run) (α ∷ [], tt) (lent-keys γ′, (len, tt)) tt r)))) (id⊢ 𝓤 _) $ await ! tt $ pick ! (λ r.
-      split ! $ move ! (1 ∷ []) $ use1 W (raw (fact 𝓤 (FoundByKeys ks len r))) (search-said 𝓤 H A at-mem run (α ∷ []) (lent-keys γ′) len r) $ heard ! (FoundByKeys ks len r) (λ e. split ! $ split ! $
+      calls-at ! (fmOf 𝓤 H (W .laws) 𝓣) (Search 𝓤 H A at-mem run) known (to-search 𝓤 H A at-mem run (α ∷ []) (lent-keys γ′) x (only (extents x))) (and-then ! (load ! (from ! (stop !)) (look ! 3 refl)) (and-then ! (load ! (from ! (stop !)) (look ! 24 refl)) (no-more !))) (λ u.
+      use1 W (later (some (λ (r : Found). ((‵ (flft (α ∷ []) fullShare) ⊛ ‵ ftrue) ⊛ ‵ (Fo.the-row .own r (u ∷ []))) ⊛ raw (ensured 𝓤 H A searched.ended (searched.clauses 𝓤 H A at-mem run) (α ∷ [], tt) (lent-keys γ′, (x, tt)) tt r)))) (id⊢ 𝓤 _) $ await ! tt $ pick ! (λ r.
+      split ! $ move ! (1 ∷ []) $ use1 W (raw (fact 𝓤 (FoundByKeys ks x r))) (search-said 𝓤 H A at-mem run (α ∷ []) (lent-keys γ′) x r) $ heard ! (FoundByKeys ks x r) (λ e. split ! $ split ! $
       -- [the call's token; true; the answer; the lender's part; the list's token; _14; …]
       lft-end ! tt $ move ! (0 ∷ 3 ∷ []) $ lent-back ! tt $ fpick ! (λ vs. fsplit ! $
       spelt ! Row (Is Row) (shows 𝓤 H A Row) (array-vals (uint-vals w32)) (array-tells u32 (uint-vals w32) (uint-tells w32) 128) fullShare ks vs (B .l₄) 0 $ move ! (1 ∷ []) $ drop ! $ move ! (1 ∷ []) $ drop ! $ move ! (1 ∷ []) $

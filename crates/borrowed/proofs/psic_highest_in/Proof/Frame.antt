@@ -23,19 +23,23 @@ use denote.Builtin.{u32}
 use denote.Ref.{RefT}
 use denote.Slice.{sliceTy, sliceVal, ShrSlice}
 use denote.Signature.{plain}
-use denote.Steps.{nothing}
+use denote.Steps.{only, nothing}
 use denote.Index.{row}
+use denote.Struct.Laws as LL
 use denote.Triple.Walked.{says, Stays, stay-none-slice, walkOf, ends-at}
 use denote.Exit.{yes}
 use Rattle.model.specs.declared.Source.{Source}
 use Rattle.model.specs.declared.Found.{Found}
 use Rattle.model.specs.Borrowed.{foundIn}
-use Rattle.borrowed.specs.Keys.{readOf}
+use Rattle.borrowed.specs.declared.Extent.{Extent}
+use Rattle.borrowed.specs.Keys.{extentOf}
 use Rattle.borrowed.proofs.Filling.{Filled, Further}
 use Rattle.model.proofs.Source as So
 use Rattle.model.proofs.Source.Laws as So′
 use Rattle.model.proofs.Found as Fo
 use Rattle.model.proofs.Found.Laws as Fo′
+use Rattle.borrowed.proofs.Extent as Ex
+use Rattle.borrowed.proofs.Extent.Laws as Ex′
 use Rattle.borrowed.proofs.psic_highest_in as highest-in
 use Rattle.borrowed.proofs.psic_highest_in.Code.Mir as mir
 
@@ -58,6 +62,10 @@ slice = sliceTy (tyRef (named 0) imm (pointee (So.the-row .written)))
 abbrev pub lent : Ty
 lent = tyRef erased imm keys
 
+-- how what a length says is spelled in memory
+abbrev pub extents : Extent → List Val
+extents = LL.vals Ex.the-type Ex′.the-laws
+
 -- where each local lies
 pub record Blocks : Type 0 where
   pub l₀ : ℕ
@@ -77,7 +85,7 @@ pub record Blocks : Type 0 where
   pub l₁₄ : ℕ
 
 abbrev pub En : {M : Type 1} (𝓤 : URA M) (H : Heap 𝓤) → Blocks → Env 𝓤 H
-En 𝓤 H B = (Fo′.mir, B .l₀) ∷ (slice, B .l₁) ∷ (word, B .l₂) ∷ (word, B .l₃) ∷ (keys, B .l₄) ∷ (word, B .l₅) ∷ (tyBool, B .l₆) ∷ (key, B .l₇) ∷ (word, B .l₈) ∷ (tyPtr, B .l₉) ∷ (So′.mir, B .l₁₀) ∷ (word, B .l₁₁) ∷ (tyPtr, B .l₁₂) ∷ (tyPtr, B .l₁₃) ∷ (lent, B .l₁₄) ∷ []
+En 𝓤 H B = (Fo′.mir, B .l₀) ∷ (slice, B .l₁) ∷ (word, B .l₂) ∷ (Ex′.mir, B .l₃) ∷ (keys, B .l₄) ∷ (word, B .l₅) ∷ (tyBool, B .l₆) ∷ (key, B .l₇) ∷ (word, B .l₈) ∷ (tyPtr, B .l₉) ∷ (So′.mir, B .l₁₀) ∷ (word, B .l₁₁) ∷ (tyPtr, B .l₁₂) ∷ (tyPtr, B .l₁₃) ∷ (lent, B .l₁₄) ∷ []
 
 module _ (κ : Lft) (q : Share) (s : RefT (List Source)) where
   -- the machine value of the list's reference, what it owns, and an open borrow of the share q′ of the elements
@@ -91,13 +99,13 @@ module _ (κ : Lft) (q : Share) (s : RefT (List Source)) where
   Opened q′ = fobor κ q (arr-parts (shares So.the-row) (length (s .now)) .part q′ (s .now) (s .ptr .0) (s .ptr .1))
 
   -- the keys' elements (0), the list's (1), and each local with what frees it, the last first: _14 (2), _13 (4), _12 (6), _11 (8), _10 (10), _9 (12), _8 (14), _7 (16), _6 (18), i (20),
-  -- what frees the keys (22), n (23), len (25), list (27), room for _0 (29); the open borrow (31), and what the list owns (32)
+  -- what frees the keys (22), e (23), len (25), list (27), room for _0 (29); the open borrow (31), and what the list owns (32)
   abbrev pub At : {M : Type 1} (𝓤 : URA M) → Share → Blocks → Filled (s .now) → List (Item 𝓤)
   At 𝓤 q′ B f = ‵ (row u32 fullShare (f .keys) (B .l₄) 0) ∷ ‵ (row So.the-row q′ (s .now) (s .ptr .0) (s .ptr .1))
       ∷ ‵ (froom lent (B .l₁₄) 0) ∷ ‵ (fdies lent (B .l₁₄)) ∷ ‵ (froom tyPtr (B .l₁₃) 0) ∷ ‵ (fdies tyPtr (B .l₁₃)) ∷ ‵ (froom tyPtr (B .l₁₂) 0) ∷ ‵ (fdies tyPtr (B .l₁₂)) ∷ ‵ (froom word (B .l₁₁) 0) ∷ ‵ (fdies word (B .l₁₁))
       ∷ ‵ (froom So′.mir (B .l₁₀) 0) ∷ ‵ (fdies So′.mir (B .l₁₀)) ∷ ‵ (froom tyPtr (B .l₉) 0) ∷ ‵ (fdies tyPtr (B .l₉)) ∷ ‵ (froom word (B .l₈) 0) ∷ ‵ (fdies word (B .l₈)) ∷ ‵ (froom key (B .l₇) 0) ∷ ‵ (fdies key (B .l₇))
       ∷ ‵ (froom tyBool (B .l₆) 0) ∷ ‵ (fdies tyBool (B .l₆)) ∷ ‵ (fat fullShare word (B .l₅) 0 (vint w64 (f .i))) ∷ ‵ (fdies word (B .l₅)) ∷ ‵ (fdies keys (B .l₄))
-      ∷ ‵ (fat fullShare word (B .l₃) 0 (vint w64 (readOf (length (s .now))))) ∷ ‵ (fdies word (B .l₃)) ∷ ‵ (fat fullShare word (B .l₂) 0 (vint w64 (length (s .now)))) ∷ ‵ (fdies word (B .l₂))
+      ∷ ‵ (fat fullShare Ex′.mir (B .l₃) 0 (only (extents (extentOf (length (s .now)))))) ∷ ‵ (fdies Ex′.mir (B .l₃)) ∷ ‵ (fat fullShare word (B .l₂) 0 (vint w64 (length (s .now)))) ∷ ‵ (fdies word (B .l₂))
       ∷ ‵ (fat fullShare slice (B .l₁) 0 v) ∷ ‵ (fdies slice (B .l₁)) ∷ ‵ (froom Fo′.mir (B .l₀) 0) ∷ ‵ (fdies Fo′.mir (B .l₀)) ∷ ‵ (Opened q′) ∷ ‵ Own ∷ []
 
 module _ {M : Type 1} (𝓤 : URA M) (H : Heap 𝓤) (A : Atoms 𝓤) (W : Given 𝓤 H A) (at-mem : Memory → SProp 𝓤) (run : Routine → Fun 𝓤) (κ : Lft) (q : Share) (s : RefT (List Source)) where

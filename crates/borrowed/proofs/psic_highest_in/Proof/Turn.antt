@@ -88,7 +88,7 @@ module _ {M : Type 1} (𝓤 : URA M) (H : Heap 𝓤) (A : Atoms 𝓤) (W : Given
   pub copies : Turns 𝓤 H A W at-mem run κ q s 𝓣 q′ B f
   unfolding afterTurn
   copies =
-      assigns ! (bin ! (load ! (from ! (stop !)) (look ! 20 refl)) (load ! (from ! (stop !)) (look ! 23 refl)) tt) (from ! (stop !)) (init ! 18 refl (tt, tt)) $
+      assigns ! (bin ! (load ! (from ! (stop !)) (look ! 20 refl)) (load ! (from ! (fld ! refl (stop !))) (look-in ! 23 (sub ! 1 refl (whole !)))) tt) (from ! (stop !)) (init ! 18 refl (tt, tt)) $
       rewrite ! 18 (λ (t : Bool). ‵ (fat fullShare tyBool (B .l₆) 0 (vbool t))) test refl $ stays ! (load ! (from ! (stop !)) (look ! 18 refl)) $
       -- list[i] is copied into _10
       assigns ! (bin ! (load ! (from ! (stop !)) (look ! 20 refl)) (lit ! tt) (record { fits = by-8 })) (from ! (stop !)) (init ! 14 refl (tt, record { fits = by-8 })) $

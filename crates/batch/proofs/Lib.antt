@@ -1,4 +1,0 @@
--- What is proved here, for the crates above.
-pub mod Decoding
-pub mod Encoding
-pub mod Strict

@@ -1,2 +1,0 @@
--- What is claimed of a list of commands as numbers.
-pub mod Statements

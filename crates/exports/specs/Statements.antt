@@ -1,0 +1,75 @@
+-- What is claimed of the calls on bytes, as propositions over what they answer and write. Assumes nothing.
+-- Source: demands 1 and 3.
+--   RefusedMakeKeeps, RefusedExecuteKeeps    an answer other than 0, that for unreadable bytes too, leaves the lent bytes as they were
+--   RefusedRunKeeps                          a list that is not run leaves the state and the answers as they were
+--   AllRefusedKeeps                          a list whose commands are all refused leaves the state's bytes as they were
+--   RunKeepsRest                             the answers keep their length, and what stands behind those written
+--   RunStrict, ListStrict                    demand 3, the ledger kept from the answers' bytes: of any bytes, and of any list of commands
+use Prim.Native.Nat.{ℕ, _+_, _*_, _^_, _<_, _≤_}
+use mathlib.Core.Path.{_≡_}
+use mathlib.Core.Logic.{_≢_}
+use mathlib.Core.List.{List}
+use mathlib.Core.Bool.{true}
+use lib.ListN.{length, getD, drop}
+use Rattle.model.specs.declared.Command.{Command}
+use Rattle.model.specs.Ledger.{opening, ledger}
+use Rattle.model.specs.Bytes.{wordAt, stateSize, stateFrom, joined, commandBytes, commandsIn, answerSize, entriesIn, numberIn, makeCall, executeCall, RunCall, noCount, roomFor, runCall}
+use Rattle.model.specs.Statements.{InRange, PriorityStrict}
+use Rattle.encoding.specs.Statements.{AreBytes}
+
+-- ---- refusals
+
+abbrev pub RefusedMakeKeeps : Type 0
+RefusedMakeKeeps = (n m : ℕ) (b : List ℕ) → numberIn ((makeCall n m b) .result) ≢ 0 → (makeCall n m b) .bytes ≡ b
+
+abbrev pub RefusedExecuteKeeps : Type 0
+RefusedExecuteKeeps =
+    (number at p : ℕ) (b : List ℕ) → AreBytes b → numberIn ((executeCall number at p b) .result) ≢ 0 →
+    (executeCall number at p b) .bytes ≡ b
+
+-- A slice is shorter than 2^64, so that no count of commands is `noCount`.
+abbrev pub RefusedRunKeeps : Type 0
+RefusedRunKeeps =
+    (b list answers : List ℕ) → length list < 2 ^ 64 → (runCall b list answers) .result ≡ noCount →
+    ((runCall b list answers) .bytes ≡ b) × ((runCall b list answers) .answers ≡ answers)
+
+-- The number of the i-th answer is the first of its bytes.
+abbrev pub AllRefusedKeeps : Type 0
+AllRefusedKeeps =
+    (b list answers : List ℕ) → AreBytes b →
+    ((i : ℕ) → i < (runCall b list answers) .result → getD ((runCall b list answers) .answers) (answerSize * i) 0 ≢ 0) →
+    (runCall b list answers) .bytes ≡ b
+
+-- Whether the list is run or not.
+abbrev pub RunKeepsRest : Type 0
+RunKeepsRest =
+    (b list answers : List ℕ) →
+    let ran = runCall b list answers in
+    (length (ran .answers) ≡ length answers) × (drop (answerSize * ran .result) (ran .answers) ≡ drop (answerSize * ran .result) answers)
+
+-- ---- demand 3
+
+-- What a call has answered and written that ran the commands cs for n sources and m cores.
+pub record Strict (n m : ℕ) (cs : List Command) (ran : RunCall) : Type 0 where
+  -- all are taken
+  pub taken : ran .result ≡ length cs
+  -- the state that the bytes encode, held against the ledger of the commands and of the answers' bytes
+  pub strict : PriorityStrict n m (ledger opening (entriesIn cs (ran .answers))) (stateFrom (ran .bytes))
+  -- no answer's bytes tell more than 2m cycles
+  pub cycles : (i : ℕ) → i < length cs → wordAt (ran .answers) (answerSize * i + 3) ≤ 2 * m
+
+-- A list run from what making writes into the bytes b.
+abbrev pub ranFresh : ℕ → ℕ → List ℕ → List ℕ → List ℕ → RunCall
+ranFresh n m b list answers = runCall ((makeCall n m b) .bytes) list answers
+
+-- Any bytes in whole commands, and any answers that have room.
+abbrev pub RunStrict : Type 0
+RunStrict =
+    (n m : ℕ) (b list answers : List ℕ) → InRange n m → length b ≡ stateSize → roomFor list answers ≡ true →
+    Strict n m (commandsIn list) (ranFresh n m b list answers)
+
+-- Any list of commands: by its bytes it can be handed over.
+abbrev pub ListStrict : Type 0
+ListStrict =
+    (n m : ℕ) (b answers : List ℕ) (cs : List Command) → InRange n m → length b ≡ stateSize → answerSize * length cs ≤ length answers →
+    Strict n m cs (ranFresh n m b (joined commandBytes cs) answers)

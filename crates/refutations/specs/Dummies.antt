@@ -1,0 +1,89 @@
+-- Wrong controllers: the dummies of document 01, and some that a weaker statement would let pass. Definitions only; nothing here
+-- needs to be believed. Each is a function from a state and a command to an answer, as `execute` is.
+-- Source: document 01, "How tight each statement is" and "Numbers for no".
+use Prim.Native.Nat.{ℕ, suc, _*_}
+use mathlib.Core.List.{List, map}
+use mathlib.Core.Bool.{Bool, true, _&&_, cond}
+use lib.Dec.{eqb}
+use Rattle.model.specs.declared.Core.{Core}
+use Rattle.model.specs.declared.Controller.{Controller}
+use Rattle.model.specs.declared.Command.{Command}
+use Rattle.model.specs.declared.Command.the-variants.{SetSourcePriority, Mask, Unmask, SetCorePriority, Trigger, Claim, Redeliver, Complete}
+use Rattle.model.specs.Records.{indexOf, sourceAt, coreAt, withDelivered, emptyBox, coreWith, controllerWith, withCores, withSource, reset, answer}
+use Rattle.model.specs.Requests.{currentPriority}
+use Rattle.model.specs.Walks.{some}
+use Rattle.model.specs.Commands.{effect, answeredId, execute}
+use Rattle.model.specs.Behaviours.{Behaviour}
+use Rattle.model.specs.Statements.{priorityOutOfRange}
+
+-- ---- the dummies of document 01
+
+-- Every command is accepted, and the state given is handed back.
+abbrev pub changeNothing : Behaviour
+changeNothing s c = answer s 0 0 0
+
+-- Every command is refused by the same number.
+abbrev pub refuseEverything : ℕ → Behaviour
+refuseEverything number s c = answer s number 0 0
+
+-- What `execute` answers, with another state: f of the one handed back.
+abbrev pub handingBack : (Controller → Controller) → Behaviour
+handingBack f s c =
+    answer (f ((execute s c) .state)) ((execute s c) .number) ((execute s c) .id .0) ((execute s c) .cycles)
+
+-- Number, id and cycles are right, and the state handed back is always the fresh one.
+abbrev pub alwaysFresh : Behaviour
+alwaysFresh = handingBack (λ s. reset (s .n) (s .m))
+
+-- All is right but the count of cycles, which is always the largest.
+abbrev pub alwaysTwoM : Behaviour
+alwaysTwoM s c = answer ((execute s c) .state) ((execute s c) .number) ((execute s c) .id .0) (2 * s .m)
+
+abbrev pub someFilled : Controller → Bool
+someFilled s = some (s .m) (λ k. (coreAt s k) .message .filled)
+
+-- A triggered request is marked delivered, though no box takes it.
+abbrev pub marked : Command → Controller → Controller
+marked (SetSourcePriority id p) s = s
+marked (Mask id) s = s
+marked (Unmask id) s = s
+marked (SetCorePriority k p) s = s
+marked (Trigger id) s = withSource s (indexOf id) (withDelivered true (sourceAt s (indexOf id)))
+marked (Claim k) s = s
+marked (Redeliver id) s = s
+marked (Complete id) s = s
+
+-- The first delivery is right. While a box is filled an accepted command has its effect and nothing settles: a triggered request is
+-- marked delivered and goes into no box.
+abbrev pub flagsOnly : Behaviour
+flagsOnly s c =
+    cond (someFilled s && eqb ((execute s c) .number) 0) (answer (marked c (effect s c)) 0 (answeredId s c) 0) (execute s c)
+
+-- ---- controllers that a demand on priorities alone would let pass
+
+-- The core stands at the priority that its box gave it, and the box is empty.
+abbrev pub raised : Core → Core
+raised c = coreWith (currentPriority c) emptyBox
+
+-- No state handed back has a filled box, though every current priority is right: no request can be claimed.
+abbrev pub hollow : Behaviour
+hollow = handingBack (λ s. withCores s (map raised (s .cores)))
+
+-- Each state handed back has a source more than the one before.
+abbrev pub growing : Behaviour
+growing = handingBack (λ s. controllerWith (suc (s .n)) (s .m) (s .sources) (s .cores))
+
+-- ---- controllers that refuse wrongly
+
+-- A refusal hands back the fresh state.
+abbrev pub freshWhenRefused : Behaviour
+freshWhenRefused s c =
+    cond (eqb ((execute s c) .number) 0) (execute s c) (answer (reset (s .n) (s .m)) ((execute s c) .number) 0 0)
+
+-- A bad core is refused as a bad source: 4 for 3.
+abbrev pub coreAsSource : Behaviour
+coreAsSource s c = cond (eqb ((execute s c) .number) 3) (answer s 4 0 0) (execute s c)
+
+-- The priority is checked before the id: 5 where 4 is due.
+abbrev pub priorityFirst : Behaviour
+priorityFirst s c = cond (eqb ((execute s c) .number) 4 && priorityOutOfRange s c) (answer s 5 0 0) (execute s c)
