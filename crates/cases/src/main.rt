@@ -52,7 +52,7 @@ fn main() {
     let mut marked = 0u16;
     let mut good = 0u16;
     while i < script::ROWS {
-        let row = script::SCRIPT[i];
+        let row = script::row(i);
         let kind = row[1];
         let at = row[2];
         let priority = row[3];

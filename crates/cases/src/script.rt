@@ -12,7 +12,7 @@ pub const ROWS: usize = 54;
 
 pub const COLUMNS: usize = 11;
 
-pub const SCRIPT: [[u16; COLUMNS]; ROWS] = [
+const SCRIPT: [[u16; COLUMNS]; ROWS] = [
     // T1: source 4 masked
     [0, 8, 0, 0, 0, 0, 0, 0, 0, 0, 0],
     [0, 1, 4, 0, 0, 0, 0, 0, 0, 0, 0],
@@ -79,3 +79,8 @@ pub const SCRIPT: [[u16; COLUMNS]; ROWS] = [
     [0, 6, 4, 0, 0, 0, 0, 0, 0, 0, 0],
     [0, 7, 0, 0, 0, 0, 0, 0, 0, 0, 0],
 ];
+
+// Row i, of those that there are.
+pub fn row(i: usize) -> [u16; COLUMNS] {
+    if i < ROWS { SCRIPT[i] } else { [0; COLUMNS] }
+}

@@ -16,11 +16,8 @@ start-requires c κs = search needs
 loop-holds : tie.Need-loop-holds Inv-loop μ-loop
 loop-holds c = search needs
 
-mul-row : tie.Need-mul-row Inv-loop μ-loop
-mul-row c = search needs
-
-array-copy-out-row : tie.Need-array-copy-out-row Inv-loop μ-loop
-array-copy-out-row c = search needs
+row-requires : tie.Need-row-requires Inv-loop μ-loop
+row-requires c κs = search needs
 
 array-read-kind : tie.Need-array-read-kind Inv-loop μ-loop
 array-read-kind c = search needs
@@ -108,8 +105,7 @@ main-spec =
     μ-loop
     start-requires
     loop-holds
-    mul-row
-    array-copy-out-row
+    row-requires
     array-read-kind
     array-read-at
     array-read-priority
