@@ -116,41 +116,35 @@ fn of_the_tables_sizes(commands: Vec<Command>) -> History {
     }
 }
 
-/// Each part of the check finds a model that breaks this part alone, and says so.
+/// A fault, commands that bring it out, the index of the last of them, and what the check says then.
+type Case = (Fault, Vec<Command>, usize, &'static str);
+
+/// For each part of the check a model that breaks this part alone.
+fn faults_of_one_part() -> [Case; 4] {
+    // T10: a request of the cores' own priority.
+    let cores_at_4 = [set_core(0, 4), set_core(1, 4)];
+    let t10 = [
+        &[set_source(4, 4), unmask(4)],
+        &cores_at_4[..],
+        &[trigger(4)],
+    ]
+    .concat();
+    let one = vec![unmask(4), trigger(4)];
+    let two_equal = vec![unmask(4), unmask(5), trigger(4), trigger(5)];
+    let twice = Fault::BoxesOneOfTwoEqualRequestsTwice;
+    let too_many = Fault::Reports2mPlus1Cycles;
+    [
+        (Fault::AtLeast, t10, 4, "not above its 4"),
+        (Fault::BoxNamesAnIdleSource, one, 1, "not an open one"),
+        (twice, two_equal, 3, "a second time"),
+        (too_many, vec![unmask(4)], 0, "5 cycles, at most 4 allowed"),
+    ]
+}
+
+/// Each part finds its model, and says so.
 #[test]
 fn each_part_of_the_check_is_needed() {
-    // T10: a request of the cores' own priority.
-    let t10 = vec![
-        set_source(4, 4),
-        unmask(4),
-        set_core(0, 4),
-        set_core(1, 4),
-        trigger(4),
-    ];
-    // Two requests of one priority, both in boxes.
-    let equal = vec![unmask(4), unmask(5), trigger(4), trigger(5)];
-    let cases = [
-        (Fault::AtLeast, t10, 4, "not above its 4"),
-        (
-            Fault::BoxNamesAnIdleSource,
-            vec![unmask(4), trigger(4)],
-            1,
-            "not an open one",
-        ),
-        (
-            Fault::BoxesOneOfTwoEqualRequestsTwice,
-            equal,
-            3,
-            "a second time",
-        ),
-        (
-            Fault::Reports2mPlus1Cycles,
-            vec![unmask(4)],
-            0,
-            "5 cycles, at most 4 allowed",
-        ),
-    ];
-    for (fault, commands, index, reason) in cases {
+    for (fault, commands, index, reason) in faults_of_one_part() {
         let breach = first_breach(&Faulty { fault }, &of_the_tables_sizes(commands), false);
         let breach = breach.unwrap_or_else(|| panic!("{fault:?} isn't found"));
         assert_eq!(breach.index, index, "{fault:?}");
