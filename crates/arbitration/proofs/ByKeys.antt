@@ -13,7 +13,7 @@ use borrow.Author.Tests.{ltb-true}
 use Rattle.model.specs.declared.Source.{Source}
 use Rattle.model.specs.declared.Core.{Core}
 use Rattle.model.specs.Records.{noSource, noCore}
-use Rattle.model.specs.Walks.{winner, walk, leftHalf, tree}
+use Rattle.lists.specs.Walks.{winner, walk, leftHalf, tree}
 use Rattle.model.specs.Requests.{currentPriority}
 use Rattle.model.specs.Arbitration.{rank, higher, highest, lower, least}
 use Rattle.arbitration.specs.Keys.{keyAbove, keyBelow, HighestKey}

@@ -10,9 +10,9 @@ use native.Mathlib.Omega.{arith}
 use native.Mathlib.Numerals.{add-one}
 use lib.ListN.{getD}
 use borrow.Author.Tests.{lt-ltb, le-ltb}
-use Rattle.model.specs.Walks.{winner, walk, tree}
+use Rattle.lists.specs.Walks.{winner, walk, tree}
 use Rattle.arbitration.specs.Keys.{keyAbove, keyBelow, HighestKey}
-use Rattle.arbitration.proofs.Winner.{WeakOrder, by-key, FirstIn, first-unique, node-left, node-right, tree-of-one, walk-of-one, tree-first}
+use Rattle.lists.proofs.Winner.{WeakOrder, by-key, FirstIn, first-unique, node-left, node-right, tree-of-one, walk-of-one, tree-first}
 
 -- ---- the highest key of a range
 

@@ -1,5 +1,4 @@
 -- What is proved here, for the crates above.
-pub mod Winner
 pub mod Tree
 pub mod Depth
 pub mod Keys

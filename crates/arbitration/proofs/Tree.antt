@@ -17,9 +17,9 @@ use Rattle.model.specs.Records.{noSource, noCore}
 use Rattle.model.specs.Requests.{currentPriority, candidate}
 use Rattle.model.specs.Arbitration.{rank, higher, highest, highestByWalk, highestId, lower, least}
 use Rattle.model.specs.Statements.{TreeIsWalk, TreeFindsFirst, LeastIsFirst, HighestIdExact}
-use Rattle.model.proofs.Bools.{clash, refuted, confirmed, Flag, on, off, flag}
+use Rattle.lists.proofs.Bools.{clash, refuted, confirmed, Flag, on, off, flag}
 use Rattle.model.proofs.Candidates.{rank-candidate, rank-none}
-use Rattle.arbitration.proofs.Winner.{WeakOrder, by-key, converse, FirstIn, first-of, none-above, tree-first, walk-first, tree-walk}
+use Rattle.lists.proofs.Winner.{WeakOrder, by-key, converse, FirstIn, first-of, none-above, tree-first, walk-first, tree-walk}
 
 -- ---- the least core
 

@@ -7,7 +7,7 @@ use mathlib.Core.List.{List}
 use mathlib.Core.Bool.{Bool}
 use lib.ListN.{getD}
 use lib.Dec.{ltb}
-use Rattle.model.specs.Walks.{tree}
+use Rattle.lists.specs.Walks.{tree}
 
 abbrev pub keyAbove : List ℕ → ℕ → ℕ → Bool
 keyAbove ks i j = ltb (getD ks j 0) (getD ks i 0)

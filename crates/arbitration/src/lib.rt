@@ -3,7 +3,7 @@
 ghost use Prim.Native.Nat.{_+_, _≤_};
 ghost use mathlib.Core.Path.{_≡_};
 ghost use Rattle.model.specs.Records.{maxSources, maxCores};
-ghost use Rattle.model.specs.Walks.{walk};
+ghost use Rattle.lists.specs.Walks.{walk};
 ghost use Rattle.arbitration.specs.Keys.{HighestKey, keyBelow};
 use model::CORES;
 use model::SOURCES;

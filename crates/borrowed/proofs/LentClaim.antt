@@ -15,16 +15,15 @@ use Rattle.model.specs.declared.Taken.{Taken}
 use Rattle.model.specs.declared.Command.the-variants.{Claim}
 use Rattle.model.specs.Records.{noCore, coreAt, withCore, taken}
 use Rattle.model.specs.Priorities.{topPriority}
-use Rattle.model.specs.WellFormed.{WellFormed, Backed}
+use Rattle.model.specs.WellFormed.{WellFormed, Holding}
 use Rattle.model.specs.Commands.{claimedCore, nothingToClaim, refusalOf, refusal, refused, execute}
 use Rattle.model.specs.Borrowed.{claimable, takenFrom, LentClaimIsCommand}
-use Rattle.model.proofs.Bools.{not-in, Flag, on, off, flag}
+use Rattle.lists.proofs.Bools.{not-in, Flag, on, off, flag}
 use Rattle.model.proofs.Priorities.{top-lt}
 use Rattle.soundness.proofs.Test.{wellFormed-in}
 use Rattle.guarantees.proofs.Accepted.{execute-refused}
 use Rattle.guarantees.proofs.AtRest.{claim-answer}
 use Rattle.guarantees.proofs.CoreEffects.{box-range}
-use Rattle.guarantees.proofs.Effects.{wellFormed-consistent}
 use Rattle.borrowed.proofs.Claims.{clean-only, taken-empty, taken-good}
 
 module _ (s : Controller) (k : CoreId) (w : WellFormed s) (k-lt : k .0 < s .m) where
@@ -53,14 +52,14 @@ module _ (s : Controller) (k : CoreId) (w : WellFormed s) (k-lt : k .0 < s .m) w
   module _ (filled : c .message .filled ≡ true) where
     can-claim : claimable c ≡ true
     can-claim =
-        let b : Backed s c = w .backed (k .0) k-lt filled in
-        let (low, high) = box-range s (wellFormed-consistent s w) (k .0) k-lt filled in
-        let top : topPriority (s .n) ≤ 511 = omega (arith, top-lt (s .n) (w .some-source) (omega (arith, w .n-le)), w .n-le) in
-        sym (clean-only c (b .some-id) (omega arith) low (omega arith) (b .above)) ∙ not-in (w .clean (k .0) k-lt)
+        let b : Holding s c = w .consistent .backed (k .0) k-lt filled in
+        let (low, high) = box-range s ((w .consistent)) (k .0) k-lt filled in
+        let top : topPriority (s .n) ≤ 511 = omega (arith, top-lt (s .n) (w .consistent .some-source) (omega (arith, w .consistent .n-le)), w .consistent .n-le) in
+        sym (clean-only c (b .some-id) (omega arith) low (omega arith) (b .above (w .clean (k .0) k-lt))) ∙ not-in (w .clean (k .0) k-lt)
 
     full : takenFrom c ≡ left (execute s (Claim k))
     full =
-        let fits : k .0 < length (s .cores) = omega (arith, w .cores-length, w .m-le) in
+        let fits : k .0 < length (s .cores) = omega (arith, w .consistent .cores-length, w .consistent .m-le) in
         let there : coreAt (withCore s (k .0) (claimedCore c)) (k .0) ≡ claimedCore c = getD-set-same (s .cores) (k .0) (claimedCore c) noCore fits in
         sym (taken-good c (ap not filled) (sym can-claim) refl refl refl) ∙
         ap (taken 0 (c .message .source)) (sym there) ∙ sym (ap left (claim-answer s w k k-lt filled))

@@ -10,7 +10,7 @@ use lib.ListN.{length, getD}
 use borrow.Author.Tests.{le-leb, lt-leb}
 use Rattle.model.specs.declared.Source.{Source}
 use Rattle.model.specs.Records.{maxSources, noSource, found}
-use Rattle.model.specs.Walks.{tree}
+use Rattle.lists.specs.Walks.{tree}
 use Rattle.model.specs.Requests.{candidate}
 use Rattle.model.specs.Arbitration.{rank, highest, highestId}
 use Rattle.model.specs.Commands.{badSize}

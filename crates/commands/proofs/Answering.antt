@@ -25,7 +25,7 @@ use Rattle.model.specs.Records.{maxSources, maxCores, coreAt, reset, answer}
 use Rattle.model.specs.Priorities.{topPriority}
 use Rattle.model.specs.WellFormed.{sizesInRange, wellFormed, WellFormed}
 use Rattle.model.specs.Commands.{unless, namesSource, namesCore, effect, refusalOf, refusal, answeredId, settled, refused, execute, make}
-use Rattle.soundness.proofs.Exact.{between-exact}
+use Rattle.lists.proofs.Exact.{between-exact}
 use Rattle.soundness.proofs.Test.{wellFormed-out}
 use Rattle.guarantees.proofs.Accepted.{execute-accepted, execute-refused}
 
@@ -86,7 +86,7 @@ as-variant s e is = is ∙ ap (execute s) (sym e)
 -- ---- a source of a sound state, and a core
 
 pub cores-in-array : (s : Controller) → wellFormed s ≡ true → s .m ≤ maxCores
-cores-in-array s sound = (wellFormed-out s sound) .m-le
+cores-in-array s sound = (wellFormed-out s sound) .consistent .m-le
 
 pub record Addressed (s : Controller) (id : SourceId) : Type 0 where
   pub sound : wellFormed s ≡ true

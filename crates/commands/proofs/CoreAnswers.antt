@@ -13,17 +13,17 @@ use Rattle.model.specs.declared.Controller.{Controller}
 use Rattle.model.specs.declared.Answer.{Answer}
 use Rattle.model.specs.declared.Command.the-variants.{SetCorePriority, Claim}
 use Rattle.model.specs.Records.{coreAt, withCores, withCore, answer}
-use Rattle.model.specs.WellFormed.{wellFormed, WellFormed}
+use Rattle.model.specs.WellFormed.{wellFormed, WellFormed, Consistent}
 use Rattle.model.specs.Settling.{settle, cyclesOf}
 use Rattle.model.specs.Commands.{claimedCore, effect, refusalOf, answeredId, settled, execute}
 use Rattle.soundness.proofs.Test.{wellFormed-out}
 use Rattle.settling.specs.declared.Retracted.{Retracted}
-use Rattle.settling.specs.Phases.{Consistent, AllDirty}
+use Rattle.settling.specs.Phases.{AllDirty}
 use Rattle.settling.specs.Runs.{AfterRetractions, AfterDeliveries}
 use Rattle.settling.proofs.Determined.{after-settles, after-counts}
 use Rattle.guarantees.proofs.Checked.{Checked, checked}
 use Rattle.guarantees.proofs.CoreEffects.{setCores, set-allDirty}
-use Rattle.guarantees.proofs.Effects.{wellFormed-consistent, effect-consistent}
+use Rattle.guarantees.proofs.Effects.{effect-consistent}
 use Rattle.commands.proofs.Answering.{answers}
 use Rattle.guarantees.proofs.AtRest.{claim-answer}
 
@@ -54,7 +54,7 @@ module _ (s : Controller) (k : CoreId) (p : ℕ) (sound : wellFormed s ≡ true)
       let h : Checked s (SetCorePriority k p) = checked s (SetCorePriority k p) passes in
       rw is-set (
         effect-consistent s (SetCorePriority k p) w passes,
-        set-allDirty s (wellFormed-consistent s w) (k .0) (h .0) p (h .1),
+        set-allDirty s ((w .consistent)) (k .0) (h .0) p (h .1),
       )
 
   pub set-settles : {t : Retracted} → AfterRetractions (withCores s l) t → {r : Answer} → AfterDeliveries (t .state) 0 (t .cycles) r → r ≡ execute s (SetCorePriority k p)

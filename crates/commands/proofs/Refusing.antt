@@ -18,9 +18,9 @@ use Rattle.model.specs.declared.CoreId.{CoreId}
 use Rattle.model.specs.declared.Controller.{Controller}
 use Rattle.model.specs.Records.{indexOf, sourceId, sourceAt, coreAt}
 use Rattle.model.specs.Requests.{boxed, claimed}
-use Rattle.model.specs.WellFormed.{between}
+use Rattle.lists.specs.Numbers.{between}
 use Rattle.model.specs.Commands.{unless}
-use Rattle.soundness.proofs.Exact.{between-exact}
+use Rattle.lists.proofs.Exact.{between-exact}
 use Rattle.commands.proofs.Answering.{failing, passing, Addressed}
 
 -- ---- priorities

@@ -20,12 +20,13 @@ use Rattle.model.specs.declared.Command.the-variants.{SetSourcePriority, Mask, 
 use Rattle.model.specs.Records.{maxCores, noSource, indexOf, sourceAt, coreAt, withConfigured, withMask, withDelivered, opened, ended, withSource, answer}
 use Rattle.model.specs.Priorities.{topPriority}
 use Rattle.model.specs.Requests.{currentPriority, waiting, candidate, claimed}
-use Rattle.model.specs.WellFormed.{between, WellFormed}
+use Rattle.lists.specs.Numbers.{between}
+use Rattle.model.specs.WellFormed.{WellFormed, Consistent}
 use Rattle.model.specs.Commands.{unless, namesSource, effect, refusalOf, answeredId, settled, execute}
-use Rattle.model.proofs.Bools.{and-r, clash}
-use Rattle.model.proofs.Writes.{read-set}
+use Rattle.lists.proofs.Bools.{and-r, clash}
+use Rattle.lists.proofs.Writes.{read-set}
 use Rattle.soundness.proofs.Test.{wellFormed-out}
-use Rattle.settling.specs.Phases.{Consistent, Delivering}
+use Rattle.settling.specs.Phases.{Delivering}
 use Rattle.settling.specs.Runs.{AfterDeliveries}
 use Rattle.settling.proofs.Next.{Settled}
 use Rattle.guarantees.proofs.Effects.{effect-consistent}
@@ -88,7 +89,7 @@ module _ {s : Controller} {o : Command} {id : SourceId} {later : ℕ} {f : Sourc
   consistent = rw written (effect-consistent s o w accepted)
 
   delivering : Delivering (withSource s (id .0 - 1) x)
-  delivering = record { clean = w .clean; covered = w .covered-settled }
+  delivering = record { clean = w .clean; covered = w .quiet .covered-settled }
 
   pub source-begins : Consistent (withSource s (id .0 - 1) x) × Delivering (withSource s (id .0 - 1) x) × (0 ≤ maxCores)
   source-begins = (consistent, delivering, omega arith)
@@ -101,8 +102,8 @@ module _ {s : Controller} {o : Command} {id : SourceId} {later : ℕ} {f : Sourc
 
   calm-settled : Calm s x → Settled (withSource s (id .0 - 1) x)
   calm-settled calm i k i-lt k-lt =
-      let fits : id .0 - 1 < length (s .sources) = omega (arith, w .sources-length, h .in-array) in
-      read-set (λ q. candidate q ≡ true → q .priority ≤ currentPriority (coreAt s k)) (s .sources) (id .0 - 1) i x noSource fits (λ e. calm k k-lt) (λ g. w .candidates-settled i k i-lt k-lt)
+      let fits : id .0 - 1 < length (s .sources) = omega (arith, w .consistent .sources-length, h .in-array) in
+      read-set (λ q. candidate q ≡ true → q .priority ≤ currentPriority (coreAt s k)) (s .sources) (id .0 - 1) i x noSource fits (λ e. calm k k-lt) (λ g. w .quiet .candidates-settled i k i-lt k-lt)
 
   pub source-rests : Calm s (f (sourceAt s (id .0 - 1))) → {r : Answer} → r ≡ answer (withSource s (id .0 - 1) x) 0 0 0 → r ≡ execute s o
   source-rests calm is =
@@ -114,7 +115,7 @@ module _ {s : Controller} {o : Command} {id : SourceId} {later : ℕ} {f : Sourc
 module _ {s : Controller} {id : SourceId} (h : Addressed s id) where
   -- another priority for later requests: the request is the same
   pub calm-configured : (p : ℕ) → Calm s (withConfigured p (sourceAt s (id .0 - 1)))
-  calm-configured p k k-lt e = (wellFormed-out s (h .sound)) .candidates-settled (id .0 - 1) k (h .in-use) k-lt e
+  calm-configured p k k-lt e = (wellFormed-out s (h .sound)) .quiet .candidates-settled (id .0 - 1) k (h .in-use) k-lt e
 
   -- a masked source is no candidate
   pub calm-masked : Calm s (withMask true (sourceAt s (id .0 - 1)))

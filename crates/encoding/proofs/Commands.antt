@@ -7,10 +7,11 @@ use Rattle.model.specs.declared.Command.{Command}
 use Rattle.model.specs.declared.Command.the-variants.{SetSourcePriority, Mask, Unmask, SetCorePriority, Trigger, Claim, Redeliver, Complete}
 use Rattle.model.specs.declared.Decoded.the-variants.{Known}
 use Rattle.model.specs.Encoding.{commandOf, numberOf, targetOf, levelOf}
-use Rattle.model.specs.Bytes.{joined, commandSize, commandBytes, commandsIn}
+use Rattle.lists.specs.Rows.{joined}
+use Rattle.model.specs.Bytes.{commandSize, commandBytes, commandsIn}
 use Rattle.encoding.specs.Statements.{CommandFits, CommandsReadBack, PackedRead}
 use Rattle.encoding.proofs.Records.{word-back}
-use Rattle.encoding.proofs.Rows.{length-joined}
+use Rattle.lists.proofs.Rows.{length-joined}
 use Rattle.encoding.proofs.Octets.{Octets, none, next, are-bytes, octets-append, octets-word}
 
 number-small : (c : Command) → numberOf c < 8

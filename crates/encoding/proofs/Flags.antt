@@ -14,10 +14,10 @@ use borrow.Author.Tests.{lt-leb, le-leb, eq-eqb, ne-eqb}
 use lib.ListN.{length, getD}
 use lib.Dec.{leb}
 use Rattle.model.specs.Records.{maxSources, maxCores}
-use Rattle.model.specs.Walks.{every}
+use Rattle.lists.specs.Walks.{every}
 use Rattle.model.specs.Bytes.{sourcesFrom, coresFrom, sourceSize, coreSize, stateSize, sourceFlags, coreFlags, isState}
-use Rattle.model.proofs.Bools.{and-in, clash, refuted}
-use Rattle.model.proofs.Walks.{every-out}
+use Rattle.lists.proofs.Bools.{and-in, clash, refuted}
+use Rattle.lists.proofs.Walks.{every-out}
 
 -- ---- one record
 

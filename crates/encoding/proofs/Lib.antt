@@ -11,7 +11,6 @@ pub mod Flags
 pub mod Reading
 pub mod Writing
 pub mod Records
-pub mod Rows
 pub mod Octets
 pub mod RoundTrip
 pub mod Commands

@@ -12,7 +12,7 @@ use lib.ListN.{length, getD, take, drop}
 use lib.Seq.{getD-drop, drop-cons}
 use lib.Dec.{eqb, leb}
 use borrow.Author.Tests.{leb-true}
-use Rattle.model.proofs.Bools.{and-l, and-r}
+use Rattle.lists.proofs.Bools.{and-l, and-r}
 use Rattle.model.specs.declared.Source.{Source}
 use Rattle.model.specs.declared.Core.{Core}
 use Rattle.model.specs.Bytes.{word, flagByte, wordAt, flagAt, isFlagAt, sourceBytes, coreBytes, sourceFrom, coreFrom, sourceFlags, coreFlags}

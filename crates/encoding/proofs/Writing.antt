@@ -14,9 +14,10 @@ use Rattle.model.specs.declared.Source.{Source}
 use Rattle.model.specs.declared.Core.{Core}
 use Rattle.model.specs.declared.Controller.{Controller}
 use Rattle.model.specs.Records.{maxSources, maxCores, noSource, noCore, sourceAt, coreAt}
-use Rattle.model.specs.Bytes.{word, flagByte, sourceSize, coreSize, stateSize, sourcesFrom, coresFrom, sourceBytes, coreBytes, joined, stateBytes}
+use Rattle.model.specs.Bytes.{word, flagByte, sourceSize, coreSize, stateSize, sourcesFrom, coresFrom, sourceBytes, coreBytes, stateBytes}
+use Rattle.lists.specs.Rows.{joined}
 use Rattle.encoding.specs.Statements.{Sized}
-use Rattle.encoding.proofs.Rows.{joined-more}
+use Rattle.lists.proofs.Rows.{joined-more}
 
 module _ (b : List ℕ) (i : ℕ) where
   pub word-stores : (x y : ℕ) → set (set b i x) (i + 1) y ≡ sets b i (x ∷ y ∷ [])

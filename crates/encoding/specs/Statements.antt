@@ -17,7 +17,8 @@ use Rattle.model.specs.declared.Command.{Command}
 use Rattle.model.specs.declared.Answer.{Answer}
 use Rattle.model.specs.Records.{maxSources, maxCores, sourceAt, coreAt}
 use Rattle.model.specs.Encoding.{targetOf, levelOf}
-use Rattle.model.specs.Bytes.{stateBytes, stateFrom, isState, joined, commandSize, commandBytes, commandsIn, packed, numberIn, idIn, cyclesIn}
+use Rattle.model.specs.Bytes.{stateBytes, stateFrom, isState, commandSize, commandBytes, commandsIn, packed, numberIn, idIn, cyclesIn}
+use Rattle.lists.specs.Rows.{joined}
 
 -- The lists have the arrays' lengths.
 pub record Sized (s : Controller) : Type 0 where

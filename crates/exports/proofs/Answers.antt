@@ -17,9 +17,10 @@ use Rattle.model.specs.declared.Command.{Command}
 use Rattle.model.specs.declared.Answer.{Answer}
 use Rattle.model.specs.Commands.{effect, settled, refused, execute, run}
 use Rattle.model.specs.Ledger.{answersTo, paired, entries}
-use Rattle.model.specs.Bytes.{wordAt, joined, answerSize, answerBytes, entriesIn}
+use Rattle.model.specs.Bytes.{wordAt, answerSize, answerBytes, entriesIn}
+use Rattle.lists.specs.Rows.{joined}
 use Rattle.encoding.proofs.Records.{word-back}
-use Rattle.encoding.proofs.Rows.{length-joined}
+use Rattle.lists.proofs.Rows.{length-joined}
 use Rattle.settling.proofs.Keeps.{settle-keeps}
 use Rattle.guarantees.proofs.Accepted.{by-answer}
 use Rattle.guarantees.proofs.Effects.{effect-m}

@@ -11,7 +11,7 @@ use lib.Seq.{sets}
 use native.Mathlib.Omega.{arith}
 use lib.Dec.{eqb, leb}
 use borrow.Author.Tests.{eq-eqb, ne-eqb, le-leb, lt-leb, eqb-true, leb-true}
-use Rattle.model.proofs.Bools.{and-l, and-r, and-in, Flag, on, off, flag}
+use Rattle.lists.proofs.Bools.{and-l, and-r, and-in, Flag, on, off, flag}
 use Rattle.model.specs.Bytes.{stateSize, isState, commandSize, answerSize, roomFor, fitsRun}
 
 pub state-size : (b : List ℕ) → isState b ≡ true → length b ≡ stateSize

@@ -9,7 +9,7 @@ use mathlib.Core.Bool.{true, false}
 use lib.ListN.{length}
 use lib.Seq.{sets}
 use borrow.Author.Tests.{eq-eqb, ne-eqb}
-use Rattle.model.proofs.Bools.{Flag, on, off, flag}
+use Rattle.lists.proofs.Bools.{Flag, on, off, flag}
 use Rattle.model.specs.declared.Controller.{Controller}
 use Rattle.model.specs.declared.Command.{Command}
 use Rattle.model.specs.declared.Decoded.{Decoded}
@@ -18,7 +18,8 @@ use Rattle.model.specs.declared.Answer.{Answer}
 use Rattle.model.specs.Commands.{execute, make, run}
 use Rattle.model.specs.Ledger.{answersTo}
 use Rattle.model.specs.Encoding.{commandOf}
-use Rattle.model.specs.Bytes.{stateSize, stateBytes, stateFrom, isState, joined, commandsIn, answerBytes, unreadable, packed, Call, callOf, makeCall, executedOn, executeCall, noCount, fitsRun, RunCall, runCallOf, runCall}
+use Rattle.model.specs.Bytes.{stateSize, stateBytes, stateFrom, isState, commandsIn, answerBytes, unreadable, packed, Call, callOf, makeCall, executedOn, executeCall, noCount, fitsRun, RunCall, runCallOf, runCall}
+use Rattle.lists.specs.Rows.{joined}
 
 -- an answer r and bytes b are those of a call
 abbrev Does : ℕ → List ℕ → Call → Type 0

@@ -9,7 +9,7 @@ use lib.ListN.{length, getD, drop}
 use lib.Seq.{length-sets, drop-at}
 use lib.Dec.{eqb}
 use borrow.Author.Tests.{eqb-true}
-use Rattle.model.proofs.Bools.{and-l, and-r, Flag, on, off, flag}
+use Rattle.lists.proofs.Bools.{and-l, and-r, Flag, on, off, flag}
 use Rattle.model.specs.declared.Decoded.{Decoded}
 use Rattle.model.specs.declared.Decoded.the-variants.{Unknown, Known}
 use Rattle.model.specs.Commands.{execute, make}

@@ -18,7 +18,8 @@ use Rattle.model.specs.declared.Decoded.the-variants.{Known}
 use Rattle.model.specs.declared.Answer.{Answer}
 use Rattle.model.specs.Commands.{execute, run}
 use Rattle.model.specs.Ledger.{answersTo}
-use Rattle.model.specs.Bytes.{stateFrom, stateBytes, isState, runCall, commandSize, commandsIn, answerBytes, joined}
+use Rattle.model.specs.Bytes.{stateFrom, stateBytes, isState, runCall, commandSize, commandsIn, answerBytes}
+use Rattle.lists.specs.Rows.{joined}
 use Rattle.exports.proofs.Commands.{commandAt, commands-more}
 use Rattle.exports.proofs.Buffers.{sets-append, fits}
 use Rattle.exports.proofs.Calls.{DoesRun, answersFrom}

@@ -8,7 +8,7 @@ use native.Mathlib.Omega.{arith}
 use lib.ListN.{length, drop}
 use borrow.Author.Tests.{eq-eqb, le-leb}
 use Rattle.model.specs.Behaviours.{runBy}
-use Rattle.model.proofs.Bools.{and-in}
+use Rattle.lists.proofs.Bools.{and-in}
 use Rattle.model.specs.declared.Controller.{Controller}
 use Rattle.model.specs.declared.Command.{Command}
 use Rattle.model.specs.declared.Answer.{Answer}
@@ -16,7 +16,8 @@ use Rattle.model.specs.Records.{reset}
 use Rattle.model.specs.WellFormed.{WellFormed}
 use Rattle.model.specs.Commands.{execute, run}
 use Rattle.model.specs.Ledger.{opening, ledger, entries}
-use Rattle.model.specs.Bytes.{stateSize, stateBytes, joined, commandSize, commandBytes, commandsIn, answerSize, makeCall, runCall}
+use Rattle.model.specs.Bytes.{stateSize, stateBytes, commandSize, commandBytes, commandsIn, answerSize, makeCall, runCall}
+use Rattle.lists.specs.Rows.{joined}
 use Rattle.model.specs.Statements.{InRange, PriorityStrict}
 use Rattle.soundness.proofs.Reset.{reset-wellFormed, makes-exactly}
 use Rattle.guarantees.proofs.Kept.{wellFormed-kept}
@@ -32,7 +33,7 @@ use Rattle.exports.proofs.Answers.{written, entries-read, cycles-told}
 
 -- a sound state has the arrays' lengths, and stays sound through a list
 sized : (s : Controller) → WellFormed s → Sized s
-sized s w = record { sources = w .sources-length; cores = w .cores-length }
+sized s w = record { sources = w .consistent .sources-length; cores = w .consistent .cores-length }
 
 run-wellFormed : (s : Controller) (cs : List Command) → WellFormed s → WellFormed (run s cs)
 unfolding runBy

@@ -13,7 +13,8 @@ use mathlib.Core.Bool.{true}
 use lib.ListN.{length, getD, drop}
 use Rattle.model.specs.declared.Command.{Command}
 use Rattle.model.specs.Ledger.{opening, ledger}
-use Rattle.model.specs.Bytes.{wordAt, stateSize, stateFrom, joined, commandBytes, commandsIn, answerSize, entriesIn, numberIn, makeCall, executeCall, RunCall, noCount, roomFor, runCall}
+use Rattle.model.specs.Bytes.{wordAt, stateSize, stateFrom, commandBytes, commandsIn, answerSize, entriesIn, numberIn, makeCall, executeCall, RunCall, noCount, roomFor, runCall}
+use Rattle.lists.specs.Rows.{joined}
 use Rattle.model.specs.Statements.{InRange, PriorityStrict}
 use Rattle.encoding.specs.Statements.{AreBytes}
 

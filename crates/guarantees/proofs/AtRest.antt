@@ -14,18 +14,18 @@ use Rattle.model.specs.declared.Answer.{Answer}
 use Rattle.model.specs.declared.Command.the-variants.{Claim}
 use Rattle.model.specs.declared.Cycle.the-variants.{Rest}
 use Rattle.model.specs.Records.{coreAt, withCore, answer}
-use Rattle.model.specs.WellFormed.{WellFormed}
+use Rattle.model.specs.WellFormed.{WellFormed, Consistent}
 use Rattle.model.specs.Settling.{next, settle, isRetraction, isDelivery, cyclesOf}
 use Rattle.model.specs.Commands.{claimedCore, effect, refusalOf, refusal, answeredId, settled, execute}
-use Rattle.model.proofs.Bools.{clash}
+use Rattle.lists.proofs.Bools.{clash}
 use Rattle.soundness.proofs.Test.{wellFormed-in}
-use Rattle.settling.specs.Phases.{Consistent, Delivering}
+use Rattle.settling.specs.Phases.{Delivering}
 use Rattle.settling.specs.Runs.{AfterDeliveries}
 use Rattle.settling.proofs.Next.{Settled, Next, resting, retracting, arbitrating, next-cases}
 use Rattle.settling.proofs.Run.{settle-rest, count-rest}
 use Rattle.guarantees.proofs.Accepted.{execute-accepted}
 use Rattle.guarantees.proofs.CoreEffects.{claimed-delivering, current-same}
-use Rattle.guarantees.proofs.Effects.{wellFormed-consistent, wellFormed-delivering, effect-begins}
+use Rattle.guarantees.proofs.Effects.{wellFormed-delivering, effect-begins}
 
 pub still : (s : Controller) → Consistent s → Delivering s → Settled s → next s ≡ Rest
 still s c d calm = go (next-cases s (c .some-source) (c .some-core))
@@ -53,7 +53,7 @@ module _ (s : Controller) (w : WellFormed s) (k : CoreId) (k-lt : k .0 < s .m) (
   after = withCore s (k .0) (claimedCore (coreAt s (k .0)))
 
   old : Consistent s
-  old = wellFormed-consistent s w
+  old = w .consistent
 
   claim-accepted : refusal s (Claim k) ≡ 0
   unfolding refusal refusalOf
@@ -65,7 +65,7 @@ module _ (s : Controller) (w : WellFormed s) (k : CoreId) (k-lt : k .0 < s .m) (
       still after
       ((effect-begins s w (Claim k) (k-lt, filled)) .0)
       (claimed-delivering s old (k .0) k-lt filled (wellFormed-delivering s w))
-      (λ i j i-lt j-lt e. rw (current-same s old (k .0) k-lt filled j) (w .candidates-settled i j i-lt j-lt e))
+      (λ i j i-lt j-lt e. rw (current-same s old (k .0) k-lt filled j) (w .quiet .candidates-settled i j i-lt j-lt e))
 
   pub claim-answer : execute s (Claim k) ≡ answer after 0 ((coreAt s (k .0)) .message .source .0) 0
   unfolding effect answeredId

@@ -18,9 +18,10 @@ use Rattle.model.specs.declared.Command.the-variants.{SetSourcePriority, Mask, 
 use Rattle.model.specs.Records.{indexOf, sourceAt, coreAt}
 use Rattle.model.specs.Priorities.{topPriority}
 use Rattle.model.specs.Requests.{claimed}
-use Rattle.model.specs.WellFormed.{between, wellFormed, WellFormed}
+use Rattle.lists.specs.Numbers.{between}
+use Rattle.model.specs.WellFormed.{wellFormed, WellFormed}
 use Rattle.model.specs.Commands.{unless, namesSource, namesCore, refusalOf, refusal}
-use Rattle.soundness.proofs.Exact.{between-exact}
+use Rattle.lists.proofs.Exact.{between-exact}
 use Rattle.soundness.proofs.Test.{wellFormed-out}
 
 abbrev pub InTop : ℕ → ℕ → Type 0

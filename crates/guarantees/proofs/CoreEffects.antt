@@ -17,9 +17,10 @@ use Rattle.model.specs.Records.{maxCores, noCore, resetCore, emptyBox, dirtied,
 use Rattle.model.specs.Priorities.{topPriority}
 use Rattle.model.specs.Requests.{currentPriority}
 use Rattle.model.specs.Commands.{soiled, claimedCore}
-use Rattle.model.proofs.Bools.{clash}
-use Rattle.model.proofs.Writes.{read-set}
-use Rattle.settling.specs.Phases.{Consistent, Holding, AllDirty, Delivering}
+use Rattle.lists.proofs.Bools.{clash}
+use Rattle.lists.proofs.Writes.{read-set}
+use Rattle.model.specs.WellFormed.{Consistent, Holding}
+use Rattle.settling.specs.Phases.{AllDirty, Delivering}
 use Rattle.guarantees.proofs.Checked.{InTop}
 
 pub record Carried (c d : Core) : Type 0 where

@@ -12,9 +12,9 @@ use Rattle.model.specs.declared.Controller.{Controller}
 use Rattle.model.specs.declared.Command.{Command}
 use Rattle.model.specs.declared.Command.the-variants.{SetSourcePriority, Mask, Unmask, SetCorePriority, Trigger, Claim, Redeliver, Complete}
 use Rattle.model.specs.Records.{indexOf, sourceAt, coreAt, withSource, withMask}
-use Rattle.model.specs.WellFormed.{Backed, WellFormed}
+use Rattle.model.specs.WellFormed.{Holding, WellFormed, Consistent}
 use Rattle.model.specs.Commands.{effect, refusalOf}
-use Rattle.settling.specs.Phases.{Holding, Consistent, Delivering, Phase, retracting, delivering}
+use Rattle.settling.specs.Phases.{Delivering, Phase, retracting, delivering}
 use Rattle.guarantees.proofs.Checked.{Named, named-index, Checked, checked}
 use Rattle.guarantees.proofs.SourceEffects.{Replaces, withSource-consistent, set-replaces, opened-replaces, redelivered-replaces, ended-replaces}
 use Rattle.guarantees.proofs.CoreEffects.{withCores-consistent, claimedCores, claimed-recored, claimed-delivering, setCores, set-recored, set-allDirty}
@@ -36,39 +36,8 @@ effect-m s o = effect-sizes s o .1
 -- ---- a sound state, as settling sees it
 
 module _ (s : Controller) (w : WellFormed s) where
-  wellFormed-holding : (c : Core) → Backed s c → Holding s c
-  wellFormed-holding c b =
-      record {
-        some-id = b .some-id;
-        id-le = b .id-le;
-        pending = b .pending;
-        delivered = b .delivered;
-        same-priority = b .same-priority;
-        above = λ e. b .above;
-      }
-
-  pub wellFormed-consistent : Consistent s
-  wellFormed-consistent =
-      record {
-        some-source = w .some-source;
-        n-le = w .n-le;
-        some-core = w .some-core;
-        m-le = w .m-le;
-        sources-length = w .sources-length;
-        cores-length = w .cores-length;
-        configured-source = w .configured-source;
-        request-range = w .request-range;
-        idle-source = w .idle-source;
-        configured-core = w .configured-core;
-        empty-box = w .empty-box;
-        spare-source = w .spare-source;
-        spare-core = w .spare-core;
-        backed = λ k h f. wellFormed-holding (coreAt s k) (w .backed k h f);
-        distinct = w .distinct;
-      }
-
   pub wellFormed-delivering : Delivering s
-  wellFormed-delivering = record { clean = w .clean; covered = w .covered-settled }
+  wellFormed-delivering = record { clean = w .clean; covered = w .quiet .covered-settled }
 
 -- ---- the effects
 
@@ -77,18 +46,18 @@ Begun s = Consistent s × Phase s
 
 module _ (s : Controller) (w : WellFormed s) where
   old : Consistent s
-  old = wellFormed-consistent s w
+  old = w .consistent
 
   -- a write of one source leaves the cores alone
   source-begun : (id : SourceId) {r : Source} → Named s id → (indexOf id < s .n → Replaces s (indexOf id) r) → Begun (withSource s (indexOf id) r)
   source-begun id {r} h fit =
       let i-lt : indexOf id < s .n = named-index s id h in
-      (withSource-consistent s old (indexOf id) i-lt r (fit i-lt), delivering (record { clean = w .clean; covered = w .covered-settled }))
+      (withSource-consistent s old (indexOf id) i-lt r (fit i-lt), delivering (record { clean = w .clean; covered = w .quiet .covered-settled }))
 
   mask-begun : (id : SourceId) (b : Bool) → Named s id → Begun (withSource s (indexOf id) (withMask b (sourceAt s (indexOf id))))
   mask-begun id b h =
       let i : ℕ = indexOf id in
-      source-begun id h (λ l. set-replaces s old i l ((sourceAt s i) .configured) b (w .configured-source i l))
+      source-begun id h (λ l. set-replaces s old i l ((sourceAt s i) .configured) b (w .consistent .configured-source i l))
 
   pub effect-begins : (o : Command) → Checked s o → Begun (effect s o)
   unfolding effect

@@ -54,7 +54,7 @@ module _ (e : Controller) (done : Settles e) (f : ℕ) (more : 2 * e .m ≤ f) w
       record {
         same-state = state-beyond e (2 * e .m) (done .rests) f more;
         same-count = omega (arith, same isRetraction refl, same isDelivery refl);
-        at-rest = record { rests = done .rests; clean = done .wellFormed .clean; none-above = done .wellFormed .candidates-settled };
+        at-rest = record { rests = done .rests; clean = done .wellFormed .clean; none-above = done .wellFormed .quiet .candidates-settled };
         retractions-le = omega (arith, same isRetraction refl, done .retractions);
         deliveries-le = omega (arith, same isDelivery refl, done .deliveries);
       }

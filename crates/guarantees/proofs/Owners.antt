@@ -8,9 +8,9 @@ use borrow.Author.Tests.{not-true}
 use Rattle.model.specs.declared.Controller.{Controller}
 use Rattle.model.specs.Records.{indexOf, sourceAt, coreAt}
 use Rattle.model.specs.Requests.{boxed, claimed, Owner, bySource, byBox, bySoftware, Owns}
-use Rattle.model.specs.WellFormed.{WellFormed, Backed}
+use Rattle.model.specs.WellFormed.{WellFormed, Holding}
 use Rattle.model.specs.Statements.{OneOwner}
-use Rattle.model.proofs.Bools.{and-in, and-l, and-r, not-in, Flag, on, off, flag}
+use Rattle.lists.proofs.Bools.{and-in, and-l, and-r, not-in, Flag, on, off, flag}
 use Rattle.model.proofs.Boxes.{holds-filled, holds-source, boxed-in, boxed-out}
 
 pub claimed-out : (s : Controller) (i : ℕ) → claimed s i ≡ true → ((sourceAt s i) .pending ≡ true) × ((sourceAt s i) .delivered ≡ true) × (boxed (s .cores) (s .m) (suc i) ≡ false)
@@ -35,7 +35,7 @@ module _ (s : Controller) (sound : WellFormed s) (i : ℕ) where
   -- a box that holds source i + 1 says of it that it is pending and delivered
   held : (k : ℕ) → Owns s i (byBox k) → (pending ≡ true) × (delivered ≡ true)
   held k h =
-      let b : Backed s (coreAt s k) = sound .backed k (h .0) (filled k h) in
+      let b : Holding s (coreAt s k) = sound .consistent .backed k (h .0) (filled k h) in
       let e : indexOf ((coreAt s k) .message .source) ≡ i = ap pred (source k h) in
       (rw e at (b .pending), rw e at (b .delivered))
 
@@ -53,7 +53,7 @@ module _ (s : Controller) (sound : WellFormed s) (i : ℕ) where
   -- two owners of one standing are the same
   sole : {o o′ : Owner} {d b : Bool} → Standing o d b → Standing o′ d b → o′ ≡ o
   sole (waits b) (waits b′) = refl
-  sole (lies k h) (lies j h′) = ap byBox (sound .distinct j k (h′ .0) (h .0) (filled j h′) (filled k h) (source j h′ ∙ sym (source k h)))
+  sole (lies k h) (lies j h′) = ap byBox (sound .consistent .distinct j k (h′ .0) (h .0) (filled j h′) (filled k h) (source j h′ ∙ sym (source k h)))
   sole taken taken = refl
 
   owned-pending : (o : Owner) → Owns s i o → pending ≡ true

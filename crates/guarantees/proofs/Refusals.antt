@@ -16,7 +16,8 @@ use Rattle.model.specs.declared.Command.the-variants.{SetSourcePriority, Mask, 
 use Rattle.model.specs.Records.{indexOf, sourceAt, coreAt, answer}
 use Rattle.model.specs.Priorities.{topPriority}
 use Rattle.model.specs.Requests.{claimed}
-use Rattle.model.specs.WellFormed.{between, wellFormed, WellFormed}
+use Rattle.lists.specs.Numbers.{between}
+use Rattle.model.specs.WellFormed.{wellFormed, WellFormed}
 use Rattle.model.specs.Commands.{unless, refusalOf, refusal, settled, refused, execute}
 use Rattle.model.specs.Statements.{coreOutOfRange, sourceOutOfRange, priorityOutOfRange, triggersPending, claimsEmpty, actsOnUnclaimed, Refusals, RefusalsExact, RefusalAnswered, RefusedUnchanged}
 use Rattle.soundness.proofs.Test.{test-exact}

@@ -20,7 +20,7 @@ use Rattle.model.specs.Records.{maxCores, noSource, noCore, indexOf, withConfig
 use Rattle.model.specs.WellFormed.{WellFormed}
 use Rattle.model.specs.Commands.{soiled, claimedCore, effect, refusal, settled, execute}
 use Rattle.model.specs.Statements.{Change, keep, becomes, changed, coreBy, sourceAfter, coreAfter, RowsMet}
-use Rattle.model.proofs.Writes.{read-written}
+use Rattle.lists.proofs.Writes.{read-written}
 use Rattle.guarantees.proofs.Accepted.{execute-accepted}
 use Rattle.guarantees.proofs.Checked.{Named, Checked, accepted}
 use Rattle.guarantees.proofs.Effects.{effect-sizes}
@@ -60,7 +60,7 @@ module _ (s : Controller) (w : WellFormed s) where
     where
       go : Dec (k < s .m) → Dec (k < maxCores) → (coreAt s k) .message .dirty ≡ false
       go (yes p) d = w .clean k p
-      go (no q) (yes p) = rw (w .spare-core k (omega arith) p)
+      go (no q) (yes p) = rw (w .consistent .spare-core k (omega arith) p)
       go (no q) (no p) = rw (List·getD-eq-default (s .cores) noCore {n = k} (omega arith))
 
   soiled-row : (j : CoreId) (p : ℕ) → j .0 < s .m → (k : ℕ) →

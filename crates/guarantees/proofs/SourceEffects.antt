@@ -13,10 +13,10 @@ use Rattle.model.specs.declared.Controller.{Controller}
 use Rattle.model.specs.Records.{noSource, resetSource, indexOf, sourceAt, coreAt, withSource, withConfigured, withMask, withDelivered, opened, ended}
 use Rattle.model.specs.Priorities.{topPriority}
 use Rattle.model.specs.Requests.{holds, claimed}
-use Rattle.model.proofs.Bools.{clash}
+use Rattle.lists.proofs.Bools.{clash}
 use Rattle.model.proofs.Boxes.{holds-in, holds-filled, holds-source, unboxed-out}
-use Rattle.model.proofs.Writes.{read-set}
-use Rattle.settling.specs.Phases.{Consistent, Holding}
+use Rattle.lists.proofs.Writes.{read-set}
+use Rattle.model.specs.WellFormed.{Consistent, Holding}
 use Rattle.guarantees.proofs.Checked.{InTop}
 use Rattle.guarantees.proofs.Owners.{claimed-out}
 

@@ -13,12 +13,13 @@ use Rattle.model.specs.declared.Core.{Core}
 use Rattle.model.specs.declared.Controller.{Controller}
 use Rattle.model.specs.Records.{noCore, coreWith, sourceAt, coreAt, withCores, withCore}
 use Rattle.model.specs.Requests.{holds, boxed}
-use Rattle.model.specs.WellFormed.{WellFormed, Backed}
+use Rattle.model.specs.WellFormed.{WellFormed, Holding}
 use Rattle.model.specs.Commands.{soiled, claimedCore}
-use Rattle.model.specs.Ledger.{Ledger, claimedRequest, priorityOf, write, writeCore, writeRequest}
-use Rattle.model.proofs.Bools.{refuted}
+use Rattle.model.specs.Ledger.{Ledger, claimedRequest, priorityOf, writeCore, writeRequest}
+use Rattle.lists.specs.Rows.{write}
+use Rattle.lists.proofs.Bools.{refuted}
 use Rattle.model.proofs.Boxes.{holds-filled, holds-source, unboxed-in, boxed-agree}
-use Rattle.model.proofs.Writes.{read-set, read-kept, read-written}
+use Rattle.lists.proofs.Writes.{read-set, read-kept, read-written}
 use Rattle.guarantees.proofs.CoreEffects.{claimedCores, setCores}
 use Rattle.ledger.specs.Matches.{Matches, requestOf}
 use Rattle.ledger.proofs.Requests.{pending-priority}
@@ -54,8 +55,8 @@ module _ (n m : ℕ) (b : Ledger) (s : Controller) (M : Matches n m b s) (W : We
 
   -- the box of core k holds the request of source i + 1
   module _ (i : ℕ) (source-named : i < n) (filled : (coreAt s k) .message .filled ≡ true) (names : (coreAt s k) .message .source .0 ≡ suc i) where
-    backed : Backed s (coreAt s k)
-    backed = W .backed k (omega arith) filled
+    backed : Holding s (coreAt s k)
+    backed = W .consistent .backed k (omega arith) filled
 
     pending : (sourceAt s i) .pending ≡ true
     pending = rw names at (backed .pending)
@@ -73,7 +74,7 @@ module _ (n m : ℕ) (b : Ledger) (s : Controller) (M : Matches n m b s) (W : We
     not-elsewhere : (j : ℕ) → j < s .m → j ≢ k → holds (suc i) (coreAt s j) ≡ false
     not-elsewhere j h apart =
         refuted (holds (suc i) (coreAt s j))
-        (λ e. apart (W .distinct j k h (omega arith) (holds-filled (suc i) (coreAt s j) e) filled (holds-source (suc i) (coreAt s j) e ∙ sym names)))
+        (λ e. apart (W .consistent .distinct j k h (omega arith) (holds-filled (suc i) (coreAt s j) e) filled (holds-source (suc i) (coreAt s j) e ∙ sym names)))
 
     unboxed : boxed (claimedCores s k) (s .m) (suc i) ≡ false
     unboxed =

@@ -8,9 +8,9 @@ use borrow.Author.Tests.{lt-ltb}
 use Rattle.model.specs.declared.Controller.{Controller}
 use Rattle.model.specs.Records.{coreAt}
 use Rattle.model.specs.Requests.{currentPriority, boxed}
-use Rattle.model.specs.WellFormed.{WellFormed, Backed}
+use Rattle.model.specs.WellFormed.{WellFormed, Holding}
 use Rattle.model.specs.Ledger.{Ledger, openRequest, competes, requestPriority, Placement, given, inBoxes}
-use Rattle.model.proofs.Bools.{or-in-l, Flag, on, off, flag}
+use Rattle.lists.proofs.Bools.{or-in-l, Flag, on, off, flag}
 use Rattle.model.proofs.Boxes.{holds-in, boxed-in}
 use Rattle.guarantees.proofs.Checked.{by-index}
 use Rattle.ledger.specs.Matches.{Matches}
@@ -32,8 +32,8 @@ record Held (b : Ledger) (s : Controller) (k : ℕ) : Type 0 where
 
 module _ (b : Ledger) (s : Controller) (w : WellFormed s) (match : Matches (s .n) (s .m) b s) where
   module _ (k : ℕ) (below : k < s .m) (f : (coreAt s k) .message .filled ≡ true) where
-    backed : Backed s (coreAt s k)
-    backed = w .backed k below f
+    backed : Holding s (coreAt s k)
+    backed = w .consistent .backed k below f
 
     held-by : (i : ℕ) → i < s .n → (coreAt s k) .message .source .0 ≡ suc i → Held b s k
     held-by i p e =
@@ -44,7 +44,7 @@ module _ (b : Ledger) (s : Controller) (w : WellFormed s) (match : Matches (s .n
           below = p;
           inside = inside;
           request = rw (match .request i p, rw e at (backed .pending), rw e at (backed .delivered), inside, rw e at (backed .same-priority));
-          above = backed .above;
+          above = backed .above (w .clean k below);
         }
 
     held : Held b s k
@@ -85,4 +85,4 @@ module _ (b : Ledger) (s : Controller) (w : WellFormed s) (match : Matches (s .n
       once : (j k : ℕ) → j < s .m → k < s .m → 1 ≤ inBoxes s j → inBoxes s j ≡ inBoxes s k → j ≡ k
       once j k x y p e =
           let q : 1 ≤ inBoxes s k = omega arith in
-          w .distinct j k x y (filled j p) (filled k q) (rw (filled j p, filled k q) at e)
+          w .consistent .distinct j k x y (filled j p) (filled k q) (rw (filled j p, filled k q) at e)

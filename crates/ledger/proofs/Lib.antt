@@ -1,6 +1,4 @@
 -- What is proved here, for the crates above.
-pub mod Counting
-pub mod Sorting
 pub mod Placements
 pub mod Requests
 pub mod Filled

@@ -14,7 +14,7 @@ use Rattle.model.specs.declared.Command.{Command}
 use Rattle.model.specs.declared.Command.the-variants.{SetSourcePriority, Mask, Unmask, SetCorePriority, Trigger, Claim, Redeliver, Complete}
 use Rattle.model.specs.Records.{sourceId, coreAt, withCore}
 use Rattle.model.specs.Requests.{claimed}
-use Rattle.model.specs.WellFormed.{WellFormed, Backed}
+use Rattle.model.specs.WellFormed.{WellFormed, Holding}
 use Rattle.model.specs.Settling.{settle}
 use Rattle.model.specs.Commands.{claimedCore, effect, refusal, answeredId, settled, refused}
 use Rattle.model.specs.Ledger.{Ledger, postAccepted, post}
@@ -42,7 +42,7 @@ module _ (n m : ℕ) (b : Ledger) (s : Controller) (M : Matches n m b s) (W : We
   unfolding postAccepted answeredId effect
   claim-follows k h filled =
       let d : Core = coreAt s (k .0) in
-      let backed : Backed s d = W .backed (k .0) h filled in
+      let backed : Holding s d = W .consistent .backed (k .0) h filled in
       at-source (λ x. d .message .source .0 ≡ x → Matches n m (postAccepted b (Claim k) x) (withCore s (k .0) (claimedCore d)))
       (λ i q e. claim-matches n m b s M W (k .0) (omega arith) i q filled e) (d .message .source) (backed .some-id, backed .id-le) refl
 

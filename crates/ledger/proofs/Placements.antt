@@ -12,10 +12,11 @@ use lib.Dec.{ltb}
 use borrow.Author.Tests.{lt-ltb, leb-true, le-leb}
 use Rattle.model.specs.declared.Controller.{Controller}
 use Rattle.model.specs.Requests.{boxed}
-use Rattle.model.specs.Ledger.{Ledger, isOpen, row, competes, requestPriority, collection, Placement, given}
-use Rattle.model.proofs.Bools.{and-in, and-l, and-r}
-use Rattle.model.proofs.Counting.{total, total-le, total-add, reach, reached}
-use Rattle.ledger.proofs.Counting.{Sent, nowhere, to, total-sent, count, count-append, count-gather, count-row, row-length}
+use Rattle.model.specs.Ledger.{Ledger, isOpen, competes, requestPriority, collection, Placement, given}
+use Rattle.lists.specs.Rows.{row}
+use Rattle.lists.proofs.Bools.{and-in, and-l, and-r}
+use Rattle.lists.proofs.Counting.{total, total-le, total-add, reach, reached}
+use Rattle.lists.proofs.Counts.{Sent, nowhere, to, total-sent, count, count-append, count-gather, count-row, row-length}
 
 abbrev pub offered : ℕ → ℕ → Ledger → Controller → ℕ → List ℕ
 offered n m b s i = cond (competes n m b s (suc i)) (requestPriority b (suc i) ∷ []) []

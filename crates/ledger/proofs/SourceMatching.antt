@@ -10,8 +10,9 @@ use Rattle.model.specs.declared.Controller.{Controller}
 use Rattle.model.specs.Records.{noSource, sourceAt, withSource, withConfigured, withMask, withDelivered, opened, ended}
 use Rattle.model.specs.Requests.{boxed}
 use Rattle.model.specs.WellFormed.{WellFormed}
-use Rattle.model.specs.Ledger.{Ledger, Request, noRequest, openRequest, claimedRequest, priorityOf, write, writeConfigured, writeMask, writeRequest}
-use Rattle.model.proofs.Writes.{read-kept, read-written}
+use Rattle.model.specs.Ledger.{Ledger, Request, noRequest, openRequest, claimedRequest, priorityOf, writeConfigured, writeMask, writeRequest}
+use Rattle.lists.specs.Rows.{write}
+use Rattle.lists.proofs.Writes.{read-kept, read-written}
 use Rattle.ledger.specs.Matches.{Matches}
 use Rattle.ledger.proofs.Requests.{pending-priority}
 

@@ -11,20 +11,21 @@ use borrow.Author.Tests.{ltb-true, ltb-false}
 use Rattle.model.specs.declared.Controller.{Controller}
 use Rattle.model.specs.Records.{sourceAt, coreAt}
 use Rattle.model.specs.Requests.{currentPriority, waiting, holds, boxed}
-use Rattle.model.specs.Walks.{some}
+use Rattle.lists.specs.Walks.{some}
 use Rattle.model.specs.WellFormed.{WellFormed}
-use Rattle.model.specs.Ledger.{Ledger, row, competes, requestPriority, collection, given, inBoxes, currentPriorities}
+use Rattle.model.specs.Ledger.{Ledger, competes, requestPriority, collection, given, inBoxes, currentPriorities}
+use Rattle.lists.specs.Rows.{row}
 use Rattle.model.specs.Statements.{PriorityStrict}
-use Rattle.model.proofs.Bools.{and-in, and-l, or-off, Flag, on, off, flag}
-use Rattle.model.proofs.Walks.{Witness, some-out, some-false-out}
+use Rattle.lists.proofs.Bools.{and-in, and-l, or-off, Flag, on, off, flag}
+use Rattle.lists.proofs.Walks.{Witness, some-out, some-false-out}
 use Rattle.model.proofs.Boxes.{holds-filled, holds-source, boxed-out}
-use Rattle.model.proofs.Counting.{total-le, total-add, reach, reach-under, reached-all}
+use Rattle.lists.proofs.Counting.{total-le, total-add, reach, reach-under, reached-all}
 use Rattle.ledger.specs.Matches.{Matches, MatchedStrict}
-use Rattle.ledger.proofs.Counting.{Sent, nowhere, to, total-sent, count, count-one, count-row, row-count-le, row-length, row-cong}
+use Rattle.lists.proofs.Counts.{Sent, nowhere, to, total-sent, count, count-one, count-row, row-count-le, row-length, row-cong}
 use Rattle.ledger.proofs.Placements.{offered, collection-count, collection-length, Competing, competes-out, placement-count}
 use Rattle.ledger.proofs.Requests.{pending-priority, unboxed-waits}
 use Rattle.ledger.proofs.Filled.{current-given, box-priority, boxes-placed}
-use Rattle.ledger.proofs.Sorting.{sorted-le, top-of}
+use Rattle.lists.proofs.Sorting.{sorted-le, top-of}
 
 module _ (b : Ledger) (s : Controller) where
   abbrev current : ℕ → ℕ
@@ -59,7 +60,7 @@ module _ (b : Ledger) (s : Controller) where
         let unmasked : not (b .masked (suc i)) ≡ true = or-off (boxed (s .cores) (s .m) (suc i)) (not (b .masked (suc i))) (c .placed) e in
         let waits : waiting (sourceAt s i) ≡ true = unboxed-waits (s .n) (s .m) b s match i p (c .is-open) e in
         rw (pending-priority (s .n) (s .m) b s match i p (and-l _ _ waits))
-        (w .candidates-settled i k p q (and-in waits (rw (match .masked i p) at unmasked)))
+        (w .quiet .candidates-settled i k p q (and-in waits (rw (match .masked i p) at unmasked)))
 
     module _ (t : ℕ) where
       currents-le : count t currents ≤ count t everything
@@ -80,7 +81,7 @@ module _ (b : Ledger) (s : Controller) where
           where
             go : Flag ((coreAt s k) .message .filled) → reach t (b .core k) + shown t k ≤ reach t (current k)
             go (on f) =
-                let covered : b .core k < t = omega (arith, match .core k below, w .covered-settled k low below low-below f) in
+                let covered : b .core k < t = omega (arith, match .core k below, w .quiet .covered-settled k low below low-below f) in
                 rw f (omega (arith, reach-under t (b .core k) covered))
             go (off f) = rw (f, match .core k below) (omega arith)
 

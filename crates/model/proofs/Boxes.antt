@@ -13,8 +13,8 @@ use borrow.Author.Tests.{eq-eqb, eqb-true}
 use Rattle.model.specs.declared.Core.{Core}
 use Rattle.model.specs.Records.{noCore}
 use Rattle.model.specs.Requests.{holds, boxed}
-use Rattle.model.proofs.Bools.{and-in, and-l, and-r}
-use Rattle.model.proofs.Walks.{Witness, some-in, some-out, some-false-in, some-false-out, some-agree}
+use Rattle.lists.proofs.Bools.{and-in, and-l, and-r}
+use Rattle.lists.proofs.Walks.{Witness, some-in, some-out, some-false-in, some-false-out, some-agree}
 
 pub holds-in : (id : ℕ) (c : Core) → c .message .filled ≡ true → c .message .source .0 ≡ id → holds id c ≡ true
 holds-in id c p q = and-in p (eq-eqb (c .message .source .0) id q)

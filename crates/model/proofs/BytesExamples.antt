@@ -1,10 +1,11 @@
 -- The worked cases of the bytes hold of the definitions, each by computation. Assumes nothing.
 use mathlib.Core.Path.{refl}
-use Rattle.model.specs.Walks.{every}
+use Rattle.lists.specs.Walks.{every}
 use Rattle.model.specs.WellFormed.{sizesInRange}
 use Rattle.model.specs.Commands.{make}
 use Rattle.model.specs.Encoding.{commandOf}
-use Rattle.model.specs.Bytes.{joined, stateBytes, isState, commandsIn, entriesIn, makeCall, executeCall, runCall}
+use Rattle.lists.specs.Rows.{joined}
+use Rattle.model.specs.Bytes.{stateBytes, isState, commandsIn, entriesIn, makeCall, executeCall, runCall}
 use Rattle.model.specs.BytesCases.{times, SourceCases, CoreCases, StateCases, CommandCases, AnswerCases, PackedCases, CallCases}
 
 pub source-cases : SourceCases

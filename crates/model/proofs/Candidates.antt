@@ -6,7 +6,7 @@ use native.Mathlib.Numerals.{add-one}
 use Rattle.model.specs.declared.Source.{Source}
 use Rattle.model.specs.Requests.{waiting, candidate}
 use Rattle.model.specs.Arbitration.{rank}
-use Rattle.model.proofs.Bools.{and-l}
+use Rattle.lists.proofs.Bools.{and-l}
 
 module _ (r : Source) where
   pub delivered-no-candidate : r .delivered ≡ true → false ≡ candidate r

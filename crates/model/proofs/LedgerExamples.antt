@@ -7,12 +7,14 @@ use mathlib.Core.Path.{_≡_, refl, sym}
 use mathlib.Core.Bool.{Bool, true, true≢false}
 use native.Mathlib.Omega.{arith}
 use Rattle.model.specs.declared.Controller.{Controller}
-use Rattle.model.specs.Walks.{some}
+use Rattle.lists.specs.Walks.{some}
 use Rattle.model.specs.Requests.{boxed}
-use Rattle.model.specs.Ledger.{Ledger, postAccepted, post, ledger, gather, competes, collection, insertDown, sortDown}
+use Rattle.model.specs.Ledger.{Ledger, postAccepted, post, ledger, competes, collection}
+use Rattle.lists.specs.Rows.{gather}
+use Rattle.lists.specs.Sorting.{insertDown, sortDown}
 use Rattle.model.specs.LedgerCases.{allRead, pages, book, boxes, collected, placing, Placed, PlacementsTold}
 use Rattle.model.specs.StateCases.{allHold}
-use Rattle.model.proofs.Walks.{below-suc}
+use Rattle.lists.proofs.Walks.{below-suc}
 
 -- To open this name is to open every definition that the ledger computes with.
 computed : ℕ → ℕ → Ledger → Controller → ℕ → Bool

@@ -2,7 +2,7 @@
 use mathlib.Core.Path.{refl}
 use lib.Count.{leadingZeros}
 use Rattle.model.specs.Priorities.{floorLog2, priorityWidth, topPriority}
-use Rattle.model.specs.Walks.{tree}
+use Rattle.lists.specs.Walks.{tree}
 use Rattle.model.specs.Arbitration.{highest, highestId}
 use Rattle.model.specs.Borrowed.{foundIn, claimable, takenFrom}
 use Rattle.model.specs.LentCases.{lentCores, lentLists, LentCoresAnswered, LentListsAnswered}

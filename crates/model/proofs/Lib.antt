@@ -1,9 +1,4 @@
 -- What is proved beside the definitions: laws that every crate above cites, and the worked cases.
-pub mod Bools
-pub mod Walks
-pub mod Arrays
-pub mod Writes
-pub mod Counting
 pub mod Boxes
 pub mod Priorities
 pub mod Candidates

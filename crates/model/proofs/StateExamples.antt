@@ -6,13 +6,13 @@
 --   retractions-hold      the lowest dirty box goes first
 use mathlib.Core.Path.{_≡_, refl}
 use mathlib.Core.Bool.{true, and-true, and-assoc}
-use Rattle.model.specs.WellFormed.{wellFormed}
+use Rattle.model.specs.WellFormed.{quiet, consistent, wellFormed}
 use Rattle.model.specs.Commands.{make}
 use Rattle.model.specs.StateCases.{ClausesAreTest, calm, toldApart, allToldApart, allHold, stateCases, boxParts, fresh, retractions}
 use Rattle.model.proofs.Examples.{computed}
 
 pub clauses-are-test : ClausesAreTest
-unfolding wellFormed
+unfolding wellFormed consistent quiet
 clauses-are-test s = simp (and-assoc, and-true)
 
 pub states-told-apart : allToldApart stateCases ≡ true

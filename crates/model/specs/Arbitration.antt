@@ -13,7 +13,7 @@ use lib.Dec.{ltb}
 use Rattle.model.specs.declared.Source.{Source}
 use Rattle.model.specs.declared.Core.{Core}
 use Rattle.model.specs.Records.{noSource, noCore}
-use Rattle.model.specs.Walks.{walk, tree}
+use Rattle.lists.specs.Walks.{walk, tree}
 use Rattle.model.specs.Requests.{currentPriority, candidate}
 
 abbrev pub rank : Source → ℕ

@@ -21,7 +21,8 @@ use Rattle.model.specs.Records.{maxSources, noSource, sourceId, coreAt, 
 use Rattle.model.specs.Priorities.{topPriority}
 use Rattle.model.specs.Requests.{candidate}
 use Rattle.model.specs.Arbitration.{highestByWalk, highestId}
-use Rattle.model.specs.WellFormed.{between, WellFormed}
+use Rattle.lists.specs.Numbers.{between}
+use Rattle.model.specs.WellFormed.{WellFormed}
 use Rattle.model.specs.Commands.{claimedCore, malformed, badSize, nothingToClaim, execute}
 
 unfoldable pub foundIn : List Source → Found

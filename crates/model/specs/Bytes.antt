@@ -15,6 +15,7 @@ use mathlib.Core.Bool.{Bool, _&&_, cond}
 use lib.ListN.{length, getD, drop}
 use lib.Seq.{sets}
 use lib.Dec.{leb, eqb}
+use Rattle.lists.specs.Rows.{joined, tabulated}
 use Rattle.model.specs.declared.Source.{Source}
 use Rattle.model.specs.declared.Core.{Core}
 use Rattle.model.specs.declared.Controller.{Controller}
@@ -23,7 +24,7 @@ use Rattle.model.specs.declared.Command.{Command}
 use Rattle.model.specs.declared.Decoded.{Decoded}
 use Rattle.model.specs.declared.Decoded.the-variants.{Unknown, Known}
 use Rattle.model.specs.Records.{maxSources, maxCores, sourceId, sourceWith, boxWith, coreWith, controllerWith}
-use Rattle.model.specs.Walks.{every}
+use Rattle.lists.specs.Walks.{every}
 use Rattle.model.specs.Commands.{execute, make, run}
 use Rattle.model.specs.Ledger.{Entry, entryWith, answersTo}
 use Rattle.model.specs.Encoding.{commandOf, numberOf, targetOf, levelOf}
@@ -73,11 +74,6 @@ coreBytes c =
     word (c .configured) ++
     (flagByte (c .message .filled) ∷ flagByte (c .message .dirty) ∷ (word (c .message .source .0) ++ word (c .message .priority)))
 
--- The bytes of each record of a list, joined.
-unfoldable pub joined : {A : Type 0} → (A → List ℕ) → List A → List ℕ
-joined f [] = []
-joined f (x ∷ xs) = f x ++ joined f xs
-
 unfoldable pub stateBytes : Controller → List ℕ
 stateBytes s = word (s .n) ++ (word (s .m) ++ (joined sourceBytes (s .sources) ++ joined coreBytes (s .cores)))
 
@@ -87,11 +83,6 @@ sourceFrom b i = sourceWith (wordAt b i) (flagAt b (i + 2)) (flagAt b (i + 3)) (
 abbrev pub coreFrom : List ℕ → ℕ → Core
 coreFrom b i =
     coreWith (wordAt b i) (boxWith (flagAt b (i + 2)) (flagAt b (i + 3)) (sourceId (wordAt b (i + 4))) (wordAt b (i + 6)))
-
--- The values f 0, .., f (n - 1).
-unfoldable pub tabulated : {A : Type 0} → ℕ → (ℕ → A) → List A
-tabulated zero f = []
-tabulated (suc k) f = tabulated k f ++ (f k ∷ [])
 
 unfoldable pub stateFrom : List ℕ → Controller
 stateFrom b =

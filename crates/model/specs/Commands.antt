@@ -20,7 +20,8 @@ use Rattle.model.specs.declared.Command.the-variants.{SetSourcePriority,
 use Rattle.model.specs.Records.{indexOf, withConfigured, withMask, withDelivered, opened, ended, emptyBox, dirtied, coreWith, sourceAt, coreAt, withCores, withSource, withCore, reset, answer}
 use Rattle.model.specs.Priorities.{topPriority}
 use Rattle.model.specs.Requests.{claimed}
-use Rattle.model.specs.WellFormed.{between, sizesInRange, wellFormed}
+use Rattle.lists.specs.Numbers.{between}
+use Rattle.model.specs.WellFormed.{sizesInRange, wellFormed}
 use Rattle.model.specs.Settling.{settle, cyclesOf}
 use Rattle.model.specs.Behaviours.{runBy}
 

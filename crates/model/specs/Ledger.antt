@@ -13,13 +13,14 @@ use mathlib.Core.Path.{_≡_}
 use mathlib.Core.List.{List, [], _∷_, _++_}
 use mathlib.Core.Bool.{Bool, true, false, not, _&&_, _||_, cond}
 use lib.Dec.{ltb, eqb}
+use Rattle.lists.specs.Rows.{gather, row, write}
 use Rattle.model.specs.declared.Controller.{Controller}
 use Rattle.model.specs.declared.Answer.{Answer}
 use Rattle.model.specs.declared.Command.{Command}
 use Rattle.model.specs.declared.Command.the-variants.{SetSourcePriority, Mask, Unmask, SetCorePriority, Trigger, Claim, Redeliver, Complete}
 use Rattle.model.specs.Records.{coreAt}
 use Rattle.model.specs.Requests.{currentPriority, boxed}
-use Rattle.model.specs.WellFormed.{between}
+use Rattle.lists.specs.Numbers.{between}
 use Rattle.model.specs.Commands.{execute}
 use Rattle.model.specs.Behaviours.{Behaviour, answersBy}
 
@@ -45,10 +46,6 @@ pub record Entry : Type 0 where
 
 abbrev pub opening : Ledger
 opening = record { core = λ k. 0; configured = λ id. 1; masked = λ id. true; request = λ id. noRequest }
-
--- f with the value at one place replaced
-abbrev pub write {ℓ} : {A : Type ℓ} → (ℕ → A) → ℕ → A → ℕ → A
-write f at v x = cond (eqb x at) v (f x)
 
 abbrev pub priorityOf : Request → ℕ
 priorityOf noRequest = 0
@@ -120,15 +117,6 @@ entries s cs = entriesBy execute s cs
 
 -- ---- the collection, and placements
 
--- The lists f 0, f 1, .., f (n - 1), joined.
-unfoldable pub gather : ℕ → (ℕ → List ℕ) → List ℕ
-gather zero f = []
-gather (suc k) f = gather k f ++ f k
-
--- The numbers f 0, f 1, .., f (n - 1).
-abbrev pub row : ℕ → (ℕ → ℕ) → List ℕ
-row n f = gather n (λ k. f k ∷ [])
-
 -- An open request lies in a box if a filled box of the state handed back names it, else it waits.
 unfoldable pub competes : ℕ → ℕ → Ledger → Controller → ℕ → Bool
 competes n m b s id = between 1 n id && isOpen (b .request id) && (boxed (s .cores) m id || not (b .masked id))
@@ -157,13 +145,3 @@ inBoxes s k = cond ((coreAt s k) .message .filled) ((coreAt s k) .message .sourc
 
 abbrev pub currentPriorities : ℕ → Controller → List ℕ
 currentPriorities m s = row m (λ k. currentPriority (coreAt s k))
-
--- ---- sorting from the top
-
-unfoldable pub insertDown : ℕ → List ℕ → List ℕ
-insertDown x [] = x ∷ []
-insertDown x (y ∷ ys) = cond (ltb x y) (y ∷ insertDown x ys) (x ∷ y ∷ ys)
-
-unfoldable pub sortDown : List ℕ → List ℕ
-sortDown [] = []
-sortDown (x ∷ xs) = insertDown x (sortDown xs)

@@ -11,7 +11,9 @@ use Rattle.model.specs.declared.Controller.{Controller}
 use Rattle.model.specs.declared.Command.{Command}
 use Rattle.model.specs.declared.Command.the-variants.{SetSourcePriority, Mask, Unmask, SetCorePriority, Trigger, Claim, Redeliver, Complete}
 use Rattle.model.specs.Records.{sourceId, coreId, holding, coreWith, withCore, reset}
-use Rattle.model.specs.Ledger.{Request, noRequest, openRequest, claimedRequest, Ledger, Entry, opening, ledger, row, competes, collection, Placement, given, inBoxes, sortDown}
+use Rattle.model.specs.Ledger.{Request, noRequest, openRequest, claimedRequest, Ledger, Entry, opening, ledger, competes, collection, Placement, given, inBoxes}
+use Rattle.lists.specs.Rows.{row}
+use Rattle.lists.specs.Sorting.{sortDown}
 use Rattle.model.specs.Cases.{sameNumbers}
 
 -- ---- entries

@@ -20,7 +20,6 @@
 --   BytesCases    worked cases of them
 pub mod Records
 pub mod Priorities
-pub mod Walks
 pub mod Requests
 pub mod Arbitration
 pub mod WellFormed

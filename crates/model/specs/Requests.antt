@@ -14,7 +14,7 @@ use Rattle.model.specs.declared.Source.{Source}
 use Rattle.model.specs.declared.Core.{Core}
 use Rattle.model.specs.declared.Controller.{Controller}
 use Rattle.model.specs.Records.{noCore, sourceAt, coreAt}
-use Rattle.model.specs.Walks.{some}
+use Rattle.lists.specs.Walks.{some}
 
 abbrev pub currentPriority : Core → ℕ
 currentPriority c = cond (c .message .filled) (c .message .priority) (c .configured)

@@ -17,7 +17,7 @@ use Rattle.model.specs.declared.Cycle.{Cycle}
 use Rattle.model.specs.declared.Cycle.the-variants.{Rest, Retract, Deliver}
 use Rattle.model.specs.declared.Command.the-variants.{Mask, SetCorePriority}
 use Rattle.model.specs.Records.{sourceId, coreId, sourceWith, resetSource, boxWith, emptyBox, coreWith, resetCore, sourceAt, coreAt, withSources, withCores, withSource, withCore, reset}
-use Rattle.model.specs.Walks.{every}
+use Rattle.lists.specs.Walks.{every}
 use Rattle.model.specs.WellFormed.{backedBy, sizesInRange, listsWhole, sourcesInRange, coresInRange, sparesReset, boxesBacked, boxesDistinct, boxesClean, candidatesSettled, coveredSettled, wellFormed}
 use Rattle.model.specs.Settling.{next, cycle}
 use Rattle.model.specs.Commands.{effect, execute, make}

@@ -8,6 +8,8 @@ use mathlib.Core.List.{List}
 use mathlib.Core.Bool.{Bool, true, false, not, _||_, cond}
 use lib.ListN.{getD, take}
 use lib.Dec.{ltb, leb, eqb}
+use Rattle.model.specs.WellFormed.{Quiet, quiet, Clean, boxesClean, Consistent, consistent, wellFormed, WellFormed}
+use Rattle.lists.specs.Walks.{FirstOf, comparisons}
 use Rattle.model.specs.declared.Source.{Source}
 use Rattle.model.specs.declared.CoreId.{CoreId}
 use Rattle.model.specs.declared.Core.{Core}
@@ -18,13 +20,13 @@ use Rattle.model.specs.declared.Command.{Command}
 use Rattle.model.specs.declared.Command.the-variants.{SetSourcePriority, Mask, Unmask, SetCorePriority, Trigger, Claim, Redeliver, Complete}
 use Rattle.model.specs.Records.{maxSources, maxCores, noSource, sourceId, indexOf, sourceWith, boxWith, coreWith, sourceAt, coreAt, bare, reset, answer}
 use Rattle.model.specs.Priorities.{floorLog2, topPriority}
-use Rattle.model.specs.Walks.{comparisons}
 use Rattle.model.specs.Requests.{currentPriority, candidate, claimed, Owner, Owns}
 use Rattle.model.specs.Arbitration.{higher, highest, highestByWalk, highestId, lower, least}
-use Rattle.model.specs.WellFormed.{wellFormed, WellFormed}
 use Rattle.model.specs.Settling.{next, settle, isRetraction, isDelivery, countOf, cyclesOf}
 use Rattle.model.specs.Commands.{effect, refusal, execute, make}
-use Rattle.model.specs.Ledger.{Ledger, opening, ledger, collection, Placement, given, inBoxes, requestPriority, currentPriorities, row, sortDown, entriesBy}
+use Rattle.model.specs.Ledger.{Ledger, opening, ledger, collection, Placement, given, inBoxes, requestPriority, currentPriorities, entriesBy}
+use Rattle.lists.specs.Rows.{row}
+use Rattle.lists.specs.Sorting.{sortDown}
 use Rattle.model.specs.Behaviours.{Behaviour, runBy}
 
 -- ---- sizes and priorities
@@ -59,6 +61,12 @@ ResetWellFormed = (n m : ℕ) → InRange n m → WellFormed (reset n m)
 abbrev pub TestExact : Type 0
 TestExact = (s : Controller) → (wellFormed s ≡ true) ↔ WellFormed s
 
+-- Each layer's test means its proposition; without a core the last one's has no least priority to compare with.
+abbrev pub LayersExact : Type 0
+LayersExact =
+    (s : Controller) →
+    ((consistent s ≡ true) ↔ Consistent s) × ((boxesClean s ≡ true) ↔ Clean s) × (1 ≤ s .m → (quiet s ≡ true) ↔ Quiet s)
+
 abbrev pub WellFormedKept : Type 0
 WellFormedKept = (s : Controller) (c : Command) → WellFormed s → WellFormed ((execute s c) .state)
 
@@ -89,12 +97,6 @@ abbrev pub CyclesBounded : Type 0
 CyclesBounded = (s : Controller) (c : Command) → (execute s c) .cycles ≤ 2 * s .m
 
 -- ---- the comparator tree
-
--- w is the first of the highest among 0, .., n - 1: above all before it, and none after it is above it.
-pub record FirstOf (above : ℕ → ℕ → Bool) (n w : ℕ) : Type 0 where
-  pub inside : w < n
-  pub before : (j : ℕ) → j < w → above w j ≡ true
-  pub after : (j : ℕ) → w ≤ j → j < n → above j w ≡ false
 
 abbrev pub TreeIsWalk : Type 0
 TreeIsWalk = (l : List Source) (n : ℕ) → highest l n ≡ highestByWalk l n

@@ -2,6 +2,11 @@
 -- Source: document 01, "A sound state", in its order. Document 01's word is "sound".
 --   wellFormed s     the computed test: it answers on any record, whatever sizes, ids and priorities it holds
 --   WellFormed s     what the test means; the two are proved equivalent
+-- Both are made of three layers, each with a test of its own:
+--   consistent, Consistent    the structure: sizes, ranges, blank values, boxes that name their request; it holds between two cycles
+--                             of settling too, so a dirty box need not be above its core's configured priority
+--   boxesClean, Clean         no box is dirty
+--   quiet, Quiet              no candidate and no covered priority is above a current one
 -- The lists' lengths are those of the arrays in every value that a program can hold.
 use Prim.Native.Nat.{ℕ, _-_, _<_, _≤_}
 use mathlib.Core.Path.{_≡_}
@@ -9,20 +14,18 @@ use mathlib.Core.List.{List}
 use mathlib.Core.Bool.{Bool, true, false, not, _&&_, _||_}
 use lib.ListN.{length, getD}
 use lib.Dec.{ltb, leb, eqb}
+use Rattle.lists.specs.Numbers.{between}
 use Rattle.model.specs.declared.Source.{Source}
 use Rattle.model.specs.declared.Core.{Core}
 use Rattle.model.specs.declared.MessageBox.{MessageBox}
 use Rattle.model.specs.declared.Controller.{Controller}
 use Rattle.model.specs.Records.{maxSources, maxCores, noSource, resetSource, resetCore, emptyBox, indexOf, sourceAt, coreAt}
 use Rattle.model.specs.Priorities.{topPriority}
-use Rattle.model.specs.Walks.{every}
+use Rattle.lists.specs.Walks.{every}
 use Rattle.model.specs.Requests.{currentPriority, candidate}
 use Rattle.model.specs.Arbitration.{leastPriority}
 
 -- ---- the test
-
-abbrev pub between : ℕ → ℕ → ℕ → Bool
-between low high x = leb low x && leb x high
 
 -- Sizes in range.
 unfoldable pub sizesInRange : ℕ → ℕ → Bool
@@ -52,11 +55,13 @@ isResetSource r =
 unfoldable pub isResetCore : Core → Bool
 isResetCore c = eqb (c .configured) 0 && isEmptyBox (c .message)
 
--- A filled box names a source that is pending and delivered, with the same priority, strictly above its core's configured priority.
+-- A filled box names a source that is pending and delivered, with the same priority, strictly above its core's configured priority;
+-- a dirty one, which a sound state has none of, need not be above.
 unfoldable pub backedBy : ℕ → Core → Source → Bool
 backedBy n c r =
     between 1 n (c .message .source .0) &&
-    r .pending && r .delivered && eqb (r .priority) (c .message .priority) && ltb (c .configured) (c .message .priority)
+    r .pending &&
+    r .delivered && eqb (r .priority) (c .message .priority) && (c .message .dirty || ltb (c .configured) (c .message .priority))
 
 abbrev pub isBacked : ℕ → List Source → Core → Bool
 isBacked n l c = not (c .message .filled) || backedBy n c (getD l (indexOf (c .message .source)) noSource)
@@ -97,26 +102,29 @@ unfoldable pub coveredSettled : Controller → Bool
 coveredSettled s =
     every (s .m) (λ k. not ((coreAt s k) .message .filled) || leb ((coreAt s k) .configured) (leastPriority (s .cores) (s .m)))
 
-unfoldable pub wellFormed : Controller → Bool
-wellFormed s =
+unfoldable pub consistent : Controller → Bool
+consistent s =
     sizesInRange (s .n) (s .m) &&
-    listsWhole s &&
-    sourcesInRange s &&
-    coresInRange s &&
-    sparesReset s && boxesBacked s && boxesDistinct s && boxesClean s && candidatesSettled s && coveredSettled s
+    listsWhole s && sourcesInRange s && coresInRange s && sparesReset s && boxesBacked s && boxesDistinct s
+
+unfoldable pub quiet : Controller → Bool
+quiet s = candidatesSettled s && coveredSettled s
+
+unfoldable pub wellFormed : Controller → Bool
+wellFormed s = consistent s && boxesClean s && quiet s
 
 -- ---- the proposition
 
 -- What a filled box says of its source.
-pub record Backed (s : Controller) (c : Core) : Type 0 where
+pub record Holding (s : Controller) (c : Core) : Type 0 where
   pub some-id : 1 ≤ c .message .source .0
   pub id-le : c .message .source .0 ≤ s .n
   pub pending : (sourceAt s (indexOf (c .message .source))) .pending ≡ true
   pub delivered : (sourceAt s (indexOf (c .message .source))) .delivered ≡ true
   pub same-priority : (sourceAt s (indexOf (c .message .source))) .priority ≡ c .message .priority
-  pub above : c .configured < c .message .priority
+  pub above : c .message .dirty ≡ false → c .configured < c .message .priority
 
-pub record WellFormed (s : Controller) : Type 0 where
+pub record Consistent (s : Controller) : Type 0 where
   pub some-source : 1 ≤ s .n
   pub n-le : s .n ≤ maxSources
   pub some-core : 1 ≤ s .m
@@ -130,8 +138,17 @@ pub record WellFormed (s : Controller) : Type 0 where
   pub empty-box : (k : ℕ) → k < s .m → (coreAt s k) .message .filled ≡ false → (coreAt s k) .message ≡ emptyBox
   pub spare-source : (i : ℕ) → s .n ≤ i → i < maxSources → sourceAt s i ≡ resetSource
   pub spare-core : (k : ℕ) → s .m ≤ k → k < maxCores → coreAt s k ≡ resetCore
-  pub backed : (k : ℕ) → k < s .m → (coreAt s k) .message .filled ≡ true → Backed s (coreAt s k)
+  pub backed : (k : ℕ) → k < s .m → (coreAt s k) .message .filled ≡ true → Holding s (coreAt s k)
   pub distinct : (j k : ℕ) → j < s .m → k < s .m → (coreAt s j) .message .filled ≡ true → (coreAt s k) .message .filled ≡ true → (coreAt s j) .message .source .0 ≡ (coreAt s k) .message .source .0 → j ≡ k
-  pub clean : (k : ℕ) → k < s .m → (coreAt s k) .message .dirty ≡ false
+
+abbrev pub Clean : Controller → Type 0
+Clean s = (k : ℕ) → k < s .m → (coreAt s k) .message .dirty ≡ false
+
+pub record Quiet (s : Controller) : Type 0 where
   pub candidates-settled : (i k : ℕ) → i < s .n → k < s .m → candidate (sourceAt s i) ≡ true → (sourceAt s i) .priority ≤ currentPriority (coreAt s k)
   pub covered-settled : (j k : ℕ) → j < s .m → k < s .m → (coreAt s j) .message .filled ≡ true → (coreAt s j) .configured ≤ currentPriority (coreAt s k)
+
+pub record WellFormed (s : Controller) : Type 0 where
+  pub consistent : Consistent s
+  pub clean : Clean s
+  pub quiet : Quiet s

@@ -10,7 +10,8 @@ use native.Mathlib.Omega.{arith}
 use lib.ListN.{getD, take}
 use lib.Dec.{eqb}
 use borrow.Author.Tests.{eqb-false}
-use Rattle.model.specs.Ledger.{paired, Ledger, opening, post, postAccepted, ledger, competes, collection, given, inBoxes, currentPriorities, insertDown, sortDown, entriesBy}
+use Rattle.model.specs.Ledger.{paired, Ledger, opening, post, postAccepted, ledger, competes, collection, given, inBoxes, currentPriorities, entriesBy}
+use Rattle.lists.specs.Sorting.{insertDown, sortDown}
 use Rattle.model.specs.Behaviours.{answersBy, Behaviour, runBy}
 use Rattle.model.specs.declared.Controller.{Controller}
 use Rattle.model.specs.declared.Command.{Command}

@@ -7,8 +7,10 @@ use lib.ListN.{getD}
 use lib.Dec.{ltb, eqb}
 use Rattle.model.specs.declared.Controller.{Controller}
 use Rattle.model.specs.Records.{coreAt}
-use Rattle.model.specs.Ledger.{Ledger, Request, noRequest, openRequest, priorityOf, Placement, given, inBoxes, currentPriorities, row, sortDown}
-use Rattle.model.proofs.Bools.{clash}
+use Rattle.model.specs.Ledger.{Ledger, Request, noRequest, openRequest, priorityOf, Placement, given, inBoxes, currentPriorities}
+use Rattle.lists.specs.Rows.{row}
+use Rattle.lists.specs.Sorting.{sortDown}
+use Rattle.lists.proofs.Bools.{clash}
 use Rattle.refutations.specs.Dummies.{hollow}
 use Rattle.refutations.specs.BoxesApart.{BoxesApart}
 use Rattle.refutations.proofs.DemandThree.{booked, after, book, smallest, delivery}

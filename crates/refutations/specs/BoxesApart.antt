@@ -6,7 +6,9 @@ use mathlib.Core.Bool.{true}
 use lib.ListN.{getD, take}
 use Rattle.model.specs.declared.Controller.{Controller}
 use Rattle.model.specs.Records.{coreAt}
-use Rattle.model.specs.Ledger.{Ledger, collection, Placement, given, inBoxes, requestPriority, currentPriorities, row, sortDown}
+use Rattle.model.specs.Ledger.{Ledger, collection, Placement, given, inBoxes, requestPriority, currentPriorities}
+use Rattle.lists.specs.Rows.{row}
+use Rattle.lists.specs.Sorting.{sortDown}
 
 pub record BoxesApart (n m : ℕ) (b : Ledger) (s : Controller) : Type 0 where
   pub n-same : s .n ≡ n

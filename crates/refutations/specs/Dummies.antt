@@ -11,7 +11,7 @@ use Rattle.model.specs.declared.Command.{Command}
 use Rattle.model.specs.declared.Command.the-variants.{SetSourcePriority, Mask, Unmask, SetCorePriority, Trigger, Claim, Redeliver, Complete}
 use Rattle.model.specs.Records.{indexOf, sourceAt, coreAt, withDelivered, emptyBox, coreWith, controllerWith, withCores, withSource, reset, answer}
 use Rattle.model.specs.Requests.{currentPriority}
-use Rattle.model.specs.Walks.{some}
+use Rattle.lists.specs.Walks.{some}
 use Rattle.model.specs.Commands.{effect, answeredId, execute}
 use Rattle.model.specs.Behaviours.{Behaviour}
 use Rattle.model.specs.Statements.{priorityOutOfRange}

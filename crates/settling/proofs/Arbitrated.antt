@@ -11,9 +11,10 @@ use borrow.Author.Tests.{not-true}
 use Rattle.model.specs.declared.Controller.{Controller}
 use Rattle.model.specs.Records.{sourceAt, coreAt}
 use Rattle.model.specs.Requests.{currentPriority, waiting, candidate}
-use Rattle.model.proofs.Bools.{and-l, and-r, clash, Flag, on, off, flag}
+use Rattle.lists.proofs.Bools.{and-l, and-r, clash, Flag, on, off, flag}
 use Rattle.model.proofs.Candidates.{candidate-pending}
-use Rattle.settling.specs.Phases.{Consistent, Delivering}
+use Rattle.model.specs.WellFormed.{Consistent}
+use Rattle.settling.specs.Phases.{Delivering}
 use Rattle.settling.proofs.Writes.{Names}
 use Rattle.settling.proofs.Next.{Contest}
 

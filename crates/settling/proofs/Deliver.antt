@@ -11,8 +11,9 @@ use Rattle.model.specs.declared.Controller.{Controller}
 use Rattle.model.specs.Records.{sourceAt, coreAt}
 use Rattle.model.specs.Requests.{currentPriority, candidate, claimed}
 use Rattle.model.specs.Settling.{deliver}
-use Rattle.model.proofs.Bools.{clash}
-use Rattle.settling.specs.Phases.{Holding, Consistent, Delivering}
+use Rattle.lists.proofs.Bools.{clash}
+use Rattle.model.specs.WellFormed.{Holding, Consistent}
+use Rattle.settling.specs.Phases.{Delivering}
 use Rattle.settling.proofs.Writes.{Names, names?, putBackAt-named, putBackAt-unnamed, putBackAt-undelivered, delivered-to, core-deliver-same, core-deliver-other, source-deliver-same, source-deliver-other, deliver-lengths}
 use Rattle.settling.proofs.Keeps.{deliver-keeps}
 use Rattle.settling.proofs.OneBox.{BoxWritten, BoxFits, each-core, box-written-consistent}

@@ -13,12 +13,12 @@ use Rattle.model.specs.declared.Cycle.the-variants.{Rest, Deliver}
 use Rattle.model.specs.Records.{sourceId, coreId, sourceAt, coreAt}
 use Rattle.model.specs.Priorities.{topPriority}
 use Rattle.model.specs.Requests.{currentPriority, candidate}
-use Rattle.model.specs.WellFormed.{Backed, WellFormed}
+use Rattle.model.specs.WellFormed.{Holding, WellFormed, Consistent}
 use Rattle.model.specs.Settling.{deliver, next}
-use Rattle.model.proofs.Bools.{clash}
+use Rattle.lists.proofs.Bools.{clash}
 use Rattle.model.proofs.Candidates.{candidate-pending}
-use Rattle.model.proofs.Counting.{reached, reached-le, reached-more}
-use Rattle.settling.specs.Phases.{Holding, Consistent, Delivering}
+use Rattle.lists.proofs.Counting.{reached, reached-le, reached-more}
+use Rattle.settling.specs.Phases.{Delivering}
 use Rattle.settling.proofs.Writes.{core-deliver-other, deliver-sizes}
 use Rattle.settling.proofs.Keeps.{deliver-keeps}
 use Rattle.settling.proofs.Arbitrated.{Arbitrated, contest-arbitrated, CandidateBefore, stayed, evicted}
@@ -28,39 +28,9 @@ use Rattle.settling.proofs.Run.{Ended, ended-here, ended-step, ended-wi
 
 -- ---- at rest the state is sound
 
-backed : {s : Controller} {c : Core} → c .message .dirty ≡ false → Holding s c → Backed s c
-backed clean h =
-    record {
-      some-id = h .some-id;
-      id-le = h .id-le;
-      pending = h .pending;
-      delivered = h .delivered;
-      same-priority = h .same-priority;
-      above = h .above clean;
-    }
-
 settled-wellFormed : {s : Controller} → Consistent s → Delivering s → Settled s → WellFormed s
 settled-wellFormed c d st =
-    record {
-      some-source = c .some-source;
-      n-le = c .n-le;
-      some-core = c .some-core;
-      m-le = c .m-le;
-      sources-length = c .sources-length;
-      cores-length = c .cores-length;
-      configured-source = c .configured-source;
-      request-range = c .request-range;
-      idle-source = c .idle-source;
-      configured-core = c .configured-core;
-      empty-box = c .empty-box;
-      spare-source = c .spare-source;
-      spare-core = c .spare-core;
-      backed = λ k p q. backed (d .clean k p) (c .backed k p q);
-      distinct = c .distinct;
-      clean = d .clean;
-      candidates-settled = st;
-      covered-settled = d .covered;
-    }
+    record { consistent = c; clean = d .clean; quiet = record { candidates-settled = st; covered-settled = d .covered } }
 
 -- ---- one delivery
 

@@ -13,10 +13,11 @@ use Rattle.model.specs.declared.Core.{Core}
 use Rattle.model.specs.declared.Controller.{Controller}
 use Rattle.model.specs.declared.Cycle.the-variants.{Rest, Deliver}
 use Rattle.model.specs.Records.{maxSources, maxCores, sourceId, coreId, withDelivered, holding, coreWith, sourceAt, coreAt, withSource, withCore, answer}
-use Rattle.model.specs.Walks.{walk}
+use Rattle.lists.specs.Walks.{walk}
 use Rattle.model.specs.Settling.{next, settle, cyclesOf, isRetraction, isDelivery}
 use Rattle.arbitration.specs.Keys.{HighestKey, keyBelow}
-use Rattle.settling.specs.Phases.{Consistent, Delivering}
+use Rattle.model.specs.WellFormed.{Consistent}
+use Rattle.settling.specs.Phases.{Delivering}
 use Rattle.settling.specs.Runs.{RanksOf, CurrentsOf, AfterDeliveries}
 use Rattle.settling.proofs.Writes.{deliver-sizes}
 use Rattle.settling.proofs.Arbitrated.{Arbitrated}

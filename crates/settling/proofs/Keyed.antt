@@ -17,17 +17,18 @@ use Rattle.model.specs.declared.Controller.{Controller}
 use Rattle.model.specs.declared.Cycle.the-variants.{Rest, Deliver}
 use Rattle.model.specs.Records.{maxSources, maxCores, sourceId, coreId, sourceAt, coreAt}
 use Rattle.model.specs.Priorities.{topPriority}
-use Rattle.model.specs.Walks.{walk}
+use Rattle.lists.specs.Walks.{walk}
 use Rattle.model.specs.Requests.{currentPriority, candidate}
 use Rattle.model.specs.Arbitration.{rank}
 use Rattle.model.specs.Settling.{interruptedBy, arbitrate, next}
-use Rattle.model.proofs.Bools.{and-in, Flag, on, off, flag}
+use Rattle.lists.proofs.Bools.{and-in, Flag, on, off, flag}
 use Rattle.model.proofs.Candidates.{rank-candidate, rank-none}
 use Rattle.model.proofs.Priorities.{top-lt}
 use Rattle.arbitration.specs.Keys.{HighestKey, keyBelow}
 use Rattle.arbitration.proofs.Tree.{highest-below, least-below}
 use Rattle.arbitration.proofs.ByKeys.{highest-by-keys, least-by-keys}
-use Rattle.settling.specs.Phases.{Holding, Consistent, Delivering}
+use Rattle.model.specs.WellFormed.{Holding, Consistent}
+use Rattle.settling.specs.Phases.{Delivering}
 use Rattle.settling.specs.Runs.{RanksOf, CurrentsOf}
 use Rattle.settling.proofs.Arbitrated.{Arbitrated, contest-arbitrated}
 use Rattle.settling.proofs.Next.{Contest, topSource, lowCore, contest, next-clean}

@@ -19,8 +19,8 @@ use Rattle.model.specs.Requests.{currentPriority, candidate}
 use Rattle.model.specs.Arbitration.{highest, least}
 use Rattle.model.specs.Settling.{firstDirty, interruptedBy, arbitrate, next}
 use Rattle.arbitration.proofs.Tree.{least-below, least-le, highest-below, highest-ge}
-use Rattle.model.proofs.Bools.{and-in, and-l, and-r, Flag, on, off, flag, clash}
-use Rattle.model.proofs.Walks.{below-suc}
+use Rattle.lists.proofs.Bools.{and-in, and-l, and-r, Flag, on, off, flag, clash}
+use Rattle.lists.proofs.Walks.{below-suc}
 
 abbrev dirtyAt : List Core → ℕ → Bool
 dirtyAt l k = (getD l k noCore) .message .dirty

@@ -14,7 +14,8 @@ use Rattle.model.specs.declared.SourceId.{SourceId}
 use Rattle.model.specs.declared.Core.{Core}
 use Rattle.model.specs.declared.Controller.{Controller}
 use Rattle.model.specs.Records.{resetSource, emptyBox, indexOf, sourceAt, coreAt}
-use Rattle.settling.specs.Phases.{Holding, Consistent, Kept}
+use Rattle.model.specs.WellFormed.{Holding, Consistent}
+use Rattle.settling.specs.Phases.{Kept}
 use Rattle.settling.proofs.Writes.{Names}
 
 -- two ids that are not 0 are told apart by their indices

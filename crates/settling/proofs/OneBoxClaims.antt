@@ -9,9 +9,9 @@ use Rattle.model.specs.declared.Core.{Core}
 use Rattle.model.specs.declared.Controller.{Controller}
 use Rattle.model.specs.Records.{sourceAt, coreAt}
 use Rattle.model.specs.Requests.{holds, claimed}
-use Rattle.model.proofs.Bools.{refuted}
+use Rattle.lists.proofs.Bools.{refuted}
 use Rattle.model.proofs.Boxes.{holds-in, holds-filled, holds-source, boxed-in, boxed-agree}
-use Rattle.settling.specs.Phases.{Consistent}
+use Rattle.model.specs.WellFormed.{Consistent}
 use Rattle.settling.proofs.Writes.{Names, names?}
 use Rattle.settling.proofs.OneBox.{BoxWritten}
 

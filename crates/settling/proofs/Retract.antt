@@ -8,7 +8,8 @@ use Rattle.model.specs.declared.Controller.{Controller}
 use Rattle.model.specs.Records.{emptyBox, coreWith, sourceAt, coreAt}
 use Rattle.model.specs.Requests.{claimed}
 use Rattle.model.specs.Settling.{retract}
-use Rattle.settling.specs.Phases.{Consistent, AllDirty}
+use Rattle.model.specs.WellFormed.{Consistent}
+use Rattle.settling.specs.Phases.{AllDirty}
 use Rattle.settling.proofs.Writes.{putBackAt-named, putBackAt-unnamed, putBackAt-undelivered, core-retract-same, core-retract-other, source-retract, retract-lengths}
 use Rattle.settling.proofs.Keeps.{retract-keeps}
 use Rattle.settling.proofs.OneBox.{BoxWritten, BoxFits, each-core, box-written-consistent}

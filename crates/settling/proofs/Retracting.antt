@@ -15,7 +15,8 @@ use Rattle.model.specs.declared.Controller.{Controller}
 use Rattle.model.specs.declared.Cycle.the-variants.{Retract}
 use Rattle.model.specs.Records.{coreId, emptyBox, coreWith, withDelivered, withSource, withCore, sourceAt, coreAt}
 use Rattle.model.specs.Settling.{retract, isRetraction}
-use Rattle.settling.specs.Phases.{Holding, Consistent, AllDirty}
+use Rattle.model.specs.WellFormed.{Holding, Consistent}
+use Rattle.settling.specs.Phases.{AllDirty}
 use Rattle.settling.specs.Runs.{AfterRetractions}
 use Rattle.settling.proofs.Writes.{core-retract-same, core-retract-other, retract-sizes}
 use Rattle.settling.proofs.Retract.{retract-consistent, retract-allDirty}

@@ -11,9 +11,10 @@ use Rattle.model.specs.declared.Controller.{Controller}
 use Rattle.model.specs.declared.Cycle.the-variants.{Retract}
 use Rattle.model.specs.Records.{coreId, coreAt}
 use Rattle.model.specs.Settling.{retract}
-use Rattle.model.proofs.Bools.{clash, confirmed}
-use Rattle.model.proofs.Counting.{reached, reached-le, reached-more}
-use Rattle.settling.specs.Phases.{Consistent, AllDirty, Delivering}
+use Rattle.lists.proofs.Bools.{clash, confirmed}
+use Rattle.lists.proofs.Counting.{reached, reached-le, reached-more}
+use Rattle.model.specs.WellFormed.{Consistent}
+use Rattle.settling.specs.Phases.{AllDirty, Delivering}
 use Rattle.settling.proofs.Writes.{core-retract-same, core-retract-other, retract-sizes}
 use Rattle.settling.proofs.Retract.{retract-consistent, retract-allDirty, retract-claimed}
 use Rattle.settling.proofs.Next.{Clean, Next, resting, retracting, arbitrating, next-cases}

@@ -19,7 +19,7 @@ use Rattle.model.specs.Records.{maxSources, noSource, noCore, sourceId, withDel
 use Rattle.model.specs.Requests.{currentPriority}
 use Rattle.model.specs.Arbitration.{rank}
 use Rattle.model.specs.Settling.{putBack, deliver}
-use Rattle.settling.specs.Phases.{Holding}
+use Rattle.model.specs.WellFormed.{Holding}
 use Rattle.settling.specs.Runs.{RanksOf}
 use Rattle.settling.proofs.Arbitrated.{Arbitrated, index-in, number-in, not-held}
 use Rattle.settling.proofs.Writes.{putBackAt-unnamed, source-putBack, length-putBack, delivered-to}

@@ -19,8 +19,8 @@ use Rattle.model.specs.declared.Core.{Core}
 use Rattle.model.specs.declared.Controller.{Controller}
 use Rattle.model.specs.Records.{noSource, noCore, sourceId, indexOf, withDelivered, emptyBox, holding, coreWith, sourceAt, coreAt}
 use Rattle.model.specs.Settling.{putBack, retract, deliver}
-use Rattle.model.proofs.Bools.{clash, Flag, on, off, flag}
-use Rattle.model.proofs.Writes.{read-kept}
+use Rattle.lists.proofs.Bools.{clash, Flag, on, off, flag}
+use Rattle.lists.proofs.Writes.{read-kept}
 
 -- ---- a store of what becomes of an element
 

@@ -16,7 +16,8 @@ use Rattle.model.specs.Requests.{currentPriority}
 use Rattle.model.specs.Arbitration.{rank}
 use Rattle.model.specs.Settling.{settle, isRetraction, countOf, cyclesOf}
 use Rattle.settling.specs.declared.Retracted.{Retracted}
-use Rattle.settling.specs.Phases.{Consistent, Delivering}
+use Rattle.model.specs.WellFormed.{Consistent}
+use Rattle.settling.specs.Phases.{Delivering}
 
 abbrev pub RanksOf : List Source → ℕ → List ℕ → Type 0
 RanksOf l n ks = (i : ℕ) → i < n → getD ks i 0 ≡ rank (getD l i noSource)

@@ -2,7 +2,8 @@
 ghost use Prim.Native.Nat.{_≤_};
 ghost use mathlib.Core.Path.{_≡_};
 ghost use Rattle.model.specs.Records.{maxSources, maxCores};
-ghost use Rattle.settling.specs.Phases.{Consistent, AllDirty, Delivering};
+ghost use Rattle.model.specs.WellFormed.{Consistent};
+ghost use Rattle.settling.specs.Phases.{AllDirty, Delivering};
 ghost use Rattle.settling.specs.Runs.{RanksOf, CurrentsOf, AfterRetractions, AfterDeliveries};
 use model::Answer;
 use model::CORES;

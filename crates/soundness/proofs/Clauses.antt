@@ -8,9 +8,9 @@ use Rattle.model.specs.declared.MessageBox.{MessageBox}
 use Rattle.model.specs.declared.Core.{Core}
 use Rattle.model.specs.declared.Controller.{Controller}
 use Rattle.model.specs.Records.{maxSources, maxCores, resetSource, resetCore, emptyBox, indexOf, sourceAt, sourceId, coreWith}
-use Rattle.model.specs.WellFormed.{sizesInRange, sourceInRange, isEmptyBox, coreInRange, isResetSource, isResetCore, backedBy, isBacked, sameSource, Backed}
+use Rattle.model.specs.WellFormed.{sizesInRange, sourceInRange, isEmptyBox, coreInRange, isResetSource, isResetCore, backedBy, isBacked, sameSource, Holding}
 use Rattle.model.specs.Statements.{InRange}
-use Rattle.soundness.proofs.Exact.{Exact, _and_, flag-exact, not-exact, leb-exact, ltb-exact, eqb-exact, between-exact, unless-exact, implies-exact}
+use Rattle.lists.proofs.Exact.{Exact, _and_, flag-exact, not-exact, leb-exact, ltb-exact, eqb-exact, between-exact, unless-exact, implies-exact}
 
 pub sizes-exact : (n m : ℕ) → Exact (sizesInRange n m) (InRange n m)
 unfolding sizesInRange
@@ -78,7 +78,7 @@ reset-core-exact c =
     (λ f t. coreWith (f .0 t) (f .1 t), λ p. (ap (λ (d : Core). d .configured) p, ap (λ (d : Core). d .message) p))
 
 pub backed-exact : (s : Controller) (c : Core) →
-    Exact (isBacked (s .n) (s .sources) c) (c .message .filled ≡ true → Backed s c)
+    Exact (isBacked (s .n) (s .sources) c) (c .message .filled ≡ true → Holding s c)
 unfolding backedBy
 backed-exact s c =
     let r : Source = sourceAt s (indexOf (c .message .source)) in
@@ -86,7 +86,7 @@ backed-exact s c =
     (Iff·trans
     (between-exact 1 (s .n) (c .message .source .0) and
     flag-exact (r .pending) and flag-exact (r .delivered) and eqb-exact (r .priority) (c .message .priority) and
-    ltb-exact (c .configured) (c .message .priority)) (
+    unless-exact (c .message .dirty) (ltb-exact (c .configured) (c .message .priority))) (
       λ (((((low, high), p), d), q), a). record { some-id = low; id-le = high; pending = p; delivered = d; same-priority = q; above = a },
       λ b. (((((b .some-id, b .id-le), b .pending), b .delivered), b .same-priority), b .above),
     ))

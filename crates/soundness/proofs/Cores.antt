@@ -17,11 +17,11 @@ use Rattle.model.specs.declared.Controller.{Controller}
 use Rattle.model.specs.Records.{noSource, sourceAt, coreAt}
 use Rattle.model.specs.Priorities.{topPriority}
 use Rattle.model.specs.Requests.{boxed}
-use Rattle.model.specs.WellFormed.{Backed, WellFormed}
-use Rattle.model.proofs.Bools.{clash}
+use Rattle.model.specs.WellFormed.{Holding, WellFormed}
+use Rattle.lists.proofs.Bools.{clash}
 use Rattle.model.proofs.Boxes.{holds-in, unboxed-out}
 use Rattle.soundness.specs.Loops.{coreFits, cleanBacked}
-use Rattle.soundness.proofs.Exact.{Exact, _and_, flag-exact, not-exact, eqb-exact, ltb-exact, between-exact, implies-exact}
+use Rattle.lists.proofs.Exact.{Exact, _and_, flag-exact, not-exact, eqb-exact, ltb-exact, between-exact, implies-exact}
 use Rattle.soundness.proofs.Clauses.{CoreFits, core-exact, SameSource}
 
 -- the core is in range, and a filled box names one of n sources
@@ -35,17 +35,17 @@ core-fits-exact n top c =
 
 pub record CoreSound (s : Controller) (k : ℕ) : Type 0 where
   pub fits : CoreFits (topPriority (s .n)) (coreAt s k)
-  pub backed : (coreAt s k) .message .filled ≡ true → Backed s (coreAt s k)
+  pub backed : (coreAt s k) .message .filled ≡ true → Holding s (coreAt s k)
   pub clean : (coreAt s k) .message .dirty ≡ false
   pub apart : (j : ℕ) → j < k → SameSource (coreAt s j) (coreAt s k) → ⊥
 
 pub core-sound : (s : Controller) → WellFormed s → (k : ℕ) → k < s .m → CoreSound s k
 core-sound s w k h =
     record {
-      fits = record { configured = w .configured-core k h; empty = w .empty-box k h };
-      backed = w .backed k h;
+      fits = record { configured = w .consistent .configured-core k h; empty = w .consistent .empty-box k h };
+      backed = w .consistent .backed k h;
       clean = w .clean k h;
-      apart = λ j g q. omega (arith, w .distinct j k (omega arith) h (q .left) (q .right) (q .source));
+      apart = λ j g q. omega (arith, w .consistent .distinct j k (omega arith) h (q .left) (q .right) (q .source));
     }
 
 abbrev pub CleanBacked : Core → Source → Type 0
@@ -78,7 +78,7 @@ module _ (s : Controller) (k : ℕ) where
   backed-out o e =
       let b = o .backed e in
       same-source ∙
-      clean-backed-exact (coreAt s k) (sourceAt s (pred idAt)) .1 ((((o .clean, b .pending), b .delivered), b .same-priority), b .above)
+      clean-backed-exact (coreAt s k) (sourceAt s (pred idAt)) .1 ((((o .clean, b .pending), b .delivered), b .same-priority), b .above (o .clean))
 
   pub names-out : CoreSound s k → CoreNames (s .n) (topPriority (s .n)) (coreAt s k)
   names-out o = (o .fits, λ e. ((o .backed e) .some-id, (o .backed e) .id-le))
@@ -97,7 +97,7 @@ module _ (s : Controller) (k : ℕ) where
                 pending = pending;
                 delivered = delivered;
                 same-priority = priority;
-                above = above;
+                above = λ d. above;
               };
           clean = clean;
           apart = λ j h g. clash (holds-in idAt (coreAt s j) (g .left) (g .source)) (unboxed-out (s .cores) k idAt u j h);

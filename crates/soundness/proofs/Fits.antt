@@ -13,8 +13,8 @@ use Rattle.model.specs.declared.Source.{Source}
 use Rattle.model.specs.Records.{maxSources, noSource, resetSource}
 use Rattle.model.specs.Requests.{candidate}
 use Rattle.soundness.specs.Loops.{sourceFits, sourcesFit, spareSourcesReset}
-use Rattle.model.proofs.Bools.{clash}
-use Rattle.soundness.proofs.Exact.{Exact, _and_, implies-exact, leb-exact, from-exact, every-exact}
+use Rattle.lists.proofs.Bools.{clash}
+use Rattle.lists.proofs.Exact.{Exact, _and_, implies-exact, leb-exact, from-exact, every-exact}
 use Rattle.soundness.proofs.Clauses.{SourceFits, source-exact, reset-source-exact}
 
 abbrev pub Fits : ℕ → ℕ → Source → Type 0

@@ -8,11 +8,9 @@
 --   Cores     one core in the test
 --   Marks     what the loop over the cores keeps
 --   Verdict   the answers of all loops together
-pub mod Exact
 pub mod Clauses
 pub mod Test
 pub mod Reset
-pub mod Turns
 pub mod Fits
 pub mod Cores
 pub mod Marks

@@ -20,9 +20,9 @@ use Rattle.model.specs.declared.Core.{Core}
 use Rattle.model.specs.declared.Controller.{Controller}
 use Rattle.model.specs.Records.{maxSources, noCore, coreAt}
 use Rattle.model.specs.Priorities.{topPriority}
-use Rattle.model.specs.Walks.{some}
+use Rattle.lists.specs.Walks.{some}
 use Rattle.model.specs.Requests.{currentPriority, holds, boxed}
-use Rattle.model.proofs.Bools.{or-in-r, clash}
+use Rattle.lists.proofs.Bools.{or-in-r, clash}
 use Rattle.model.proofs.Boxes.{holds-in, holds-filled, holds-source, boxed-out}
 use Rattle.soundness.proofs.Cores.{CoreNames, CoreSound, idAt, backedAt, filled-sound, empty-sound}
 

@@ -15,8 +15,8 @@ use Rattle.model.specs.Requests.{candidate}
 use Rattle.model.specs.WellFormed.{sizesInRange}
 use Rattle.model.specs.Commands.{make}
 use Rattle.model.specs.Statements.{ResetWellFormed, MakesExactly}
-use Rattle.model.proofs.Bools.{clash}
-use Rattle.soundness.proofs.Exact.{refuted-exact}
+use Rattle.lists.proofs.Bools.{clash}
+use Rattle.lists.proofs.Exact.{refuted-exact}
 use Rattle.soundness.proofs.Clauses.{sizes-exact, SourceFits}
 
 pub top-positive : (n : ℕ) → 1 ≤ topPriority n
@@ -46,24 +46,30 @@ reset-wellFormed n m r =
     let core = core-reset n m in
     let empty : (k : ℕ) → (coreAt (reset n m) k) .message .filled ≡ false = λ k. ap (λ (c : Core). c .message .filled) (core k) in
     record {
-      some-source = r .some-source;
-      n-le = r .n-le;
-      some-core = r .some-core;
-      m-le = r .m-le;
-      sources-length = length-replicate maxSources resetSource;
-      cores-length = length-replicate maxCores resetCore;
-      configured-source = λ i h. (fits i h) .configured;
-      request-range = λ i h. (fits i h) .request;
-      idle-source = λ i h. (fits i h) .idle;
-      configured-core = λ k h. omega (arith, ap (λ (c : Core). c .configured) (core k));
-      empty-box = λ k h e. ap (λ (c : Core). c .message) (core k);
-      spare-source = λ i a b. source-reset n m i b;
-      spare-core = λ k a b. core k;
-      backed = λ k h e. clash e (empty k);
-      distinct = λ j k g h e f q. clash e (empty j);
+      consistent =
+          record {
+            some-source = r .some-source;
+            n-le = r .n-le;
+            some-core = r .some-core;
+            m-le = r .m-le;
+            sources-length = length-replicate maxSources resetSource;
+            cores-length = length-replicate maxCores resetCore;
+            configured-source = λ i h. (fits i h) .configured;
+            request-range = λ i h. (fits i h) .request;
+            idle-source = λ i h. (fits i h) .idle;
+            configured-core = λ k h. omega (arith, ap (λ (c : Core). c .configured) (core k));
+            empty-box = λ k h e. ap (λ (c : Core). c .message) (core k);
+            spare-source = λ i a b. source-reset n m i b;
+            spare-core = λ k a b. core k;
+            backed = λ k h e. clash e (empty k);
+            distinct = λ j k g h e f q. clash e (empty j);
+          };
       clean = λ k h. ap (λ (c : Core). c .message .dirty) (core k);
-      candidates-settled = λ i k g h e. clash e (ap candidate (source i g));
-      covered-settled = λ j k g h e. clash e (empty j);
+      quiet =
+          record {
+            candidates-settled = λ i k g h e. clash e (ap candidate (source i g));
+            covered-settled = λ j k g h e. clash e (empty j);
+          };
     }
 
 pub makes-exactly : MakesExactly

@@ -2,10 +2,13 @@
 -- the test's order. Assumes nothing.
 --   wellFormed-out, wellFormed-in    the two directions
 --   test-exact                       both
+--   layers-exact                     the same of each layer
+use Rattle.model.specs.Statements.{LayersExact, TestExact}
+use Rattle.model.specs.WellFormed.{Quiet, quiet, consistent, Consistent, Clean, sizesInRange, listsWhole, sourcesInRange, coresInRange, sparesReset, boxesBacked, boxesDistinct, boxesClean, candidatesSettled, coveredSettled, wellFormed, WellFormed, Holding}
 use Prim.Native.Nat.{ℕ, _<_, _≤_}
 use mathlib.Core.Path.{_≡_, sym}
 use mathlib.Core.Logic.{_↔_, Iff·trans}
-use mathlib.Core.Bool.{true, false}
+use mathlib.Core.Bool.{true, false, _&&_}
 use mathlib.Core.List.{List}
 use lib.ListN.{length, getD}
 use lib.Dec.{leb}
@@ -18,33 +21,10 @@ use Rattle.model.specs.Records.{maxSources, maxCores, noCore, resetSource, rese
 use Rattle.model.specs.Priorities.{topPriority}
 use Rattle.model.specs.Requests.{currentPriority, candidate}
 use Rattle.model.specs.Arbitration.{least, leastPriority}
-use Rattle.model.specs.WellFormed.{sizesInRange, listsWhole, sourcesInRange, coresInRange, sparesReset, boxesBacked, boxesDistinct, boxesClean, candidatesSettled, coveredSettled, wellFormed, WellFormed, Backed}
-use Rattle.model.specs.Statements.{TestExact}
 use Rattle.arbitration.proofs.Tree.{least-le, least-below}
-use Rattle.model.proofs.Bools.{and-in, and-l, and-r}
-use Rattle.soundness.proofs.Exact.{Exact, _and_, not-exact, leb-exact, eqb-exact, refuted-exact, implies-exact, from-exact, every-exact}
+use Rattle.lists.proofs.Bools.{and-in, and-l, and-r}
+use Rattle.lists.proofs.Exact.{Exact, _and_, not-exact, leb-exact, eqb-exact, refuted-exact, implies-exact, from-exact, every-exact}
 use Rattle.soundness.proofs.Clauses.{sizes-exact, SourceFits, source-exact, CoreFits, core-exact, reset-source-exact, reset-core-exact, backed-exact, SameSource, same-source-exact}
-
--- the clauses, each passed
-record Passed (s : Controller) : Type 0 where
-  sizes : sizesInRange (s .n) (s .m) ≡ true
-  lists : listsWhole s ≡ true
-  sources : sourcesInRange s ≡ true
-  cores : coresInRange s ≡ true
-  spares : sparesReset s ≡ true
-  backed : boxesBacked s ≡ true
-  distinct : boxesDistinct s ≡ true
-  clean : boxesClean s ≡ true
-  candidates : candidatesSettled s ≡ true
-  covered : coveredSettled s ≡ true
-
-passed-out : (s : Controller) → wellFormed s ≡ true → Passed s
-unfolding wellFormed
-passed-out s e = search (and-l, and-r) depth 14
-
-passed-in : (s : Controller) → Passed s → wellFormed s ≡ true
-unfolding wellFormed
-passed-in s p = search and-in depth 14
 
 -- a symmetric relation holds between no two numbers below m if it holds from none to a larger one
 module _ (m : ℕ) (R : ℕ → ℕ → Type 0) (turn : (j k : ℕ) → R j k → R k j) where
@@ -91,7 +71,7 @@ module _ (s : Controller) where
       every-exact maxSources (λ i. from-exact i (s .n) (reset-source-exact (sourceAt s i))) and
       every-exact maxCores (λ k. from-exact k (s .m) (reset-core-exact (coreAt s k)))
 
-  boxes-exact : Exact (boxesBacked s) ((k : ℕ) → k < s .m → (coreAt s k) .message .filled ≡ true → Backed s (coreAt s k))
+  boxes-exact : Exact (boxesBacked s) ((k : ℕ) → k < s .m → (coreAt s k) .message .filled ≡ true → Holding s (coreAt s k))
   unfolding boxesBacked
   boxes-exact = every-exact (s .m) (λ k. backed-exact s (coreAt s k))
 
@@ -101,7 +81,7 @@ module _ (s : Controller) where
       Iff·trans (every-exact (s .m) (λ k. every-exact k (λ j. refuted-exact (same-source-exact (coreAt s j) (coreAt s k)))))
       (sources-apart s)
 
-  clean-exact : Exact (boxesClean s) ((k : ℕ) → k < s .m → (coreAt s k) .message .dirty ≡ false)
+  clean-exact : Exact (boxesClean s) (Clean s)
   unfolding boxesClean
   clean-exact = every-exact (s .m) (λ k. not-exact ((coreAt s k) .message .dirty))
 
@@ -128,54 +108,80 @@ module _ (s : Controller) (some : 1 ≤ s .m) where
       every-exact (s .m)
       (λ j. implies-exact ((coreAt s j) .message .filled) (least-exact (s .cores) (s .m) ((coreAt s j) .configured) some))
 
+-- ---- the layers, and the whole
+
+consistent-exact : (s : Controller) → Exact (consistent s) (Consistent s)
+unfolding consistent
+consistent-exact s =
+    Iff·trans
+    (sizes-exact (s .n) (s .m) and
+    lists-exact s and sources-exact s and cores-exact s and spares-exact s and boxes-exact s and distinct-exact s) (
+      λ ((((((sizes, lists), sources), cores), spares), backed), distinct).
+          record {
+            some-source = sizes .some-source;
+            n-le = sizes .n-le;
+            some-core = sizes .some-core;
+            m-le = sizes .m-le;
+            sources-length = lists .0;
+            cores-length = lists .1;
+            configured-source = λ i h. (sources i h) .configured;
+            request-range = λ i h. (sources i h) .request;
+            idle-source = λ i h. (sources i h) .idle;
+            configured-core = λ k h. (cores k h) .configured;
+            empty-box = λ k h. (cores k h) .empty;
+            spare-source = λ i a b. spares .0 i b a;
+            spare-core = λ k a b. spares .1 k b a;
+            backed = backed;
+            distinct = λ j k a b f g q. distinct j k a b (record { left = f; right = g; source = q });
+          },
+      λ c. (
+        (
+          (
+            (
+              (
+                (
+                  record { some-source = c .some-source; n-le = c .n-le; some-core = c .some-core; m-le = c .m-le },
+                  (c .sources-length, c .cores-length),
+                ),
+                λ i h. record { configured = c .configured-source i h; request = c .request-range i h; idle = c .idle-source i h },
+              ),
+              λ k h. record { configured = c .configured-core k h; empty = c .empty-box k h },
+            ),
+            (λ i b a. c .spare-source i a b, λ k b a. c .spare-core k a b),
+          ),
+          c .backed,
+        ),
+        λ j k a b f. c .distinct j k a b (f .left) (f .right) (f .source),
+      ),
+    )
+
+quiet-exact : (s : Controller) → 1 ≤ s .m → Exact (quiet s) (Quiet s)
+unfolding quiet
+quiet-exact s some =
+    Iff·trans (candidates-exact s some and covered-exact s some) (
+      λ (f, g). record { candidates-settled = λ i k a b c. f i a c k b; covered-settled = λ j k a b e. g j a e k b },
+      λ q. (λ i a c k b. q .candidates-settled i k a b c, λ j a e k b. q .covered-settled j k a b e),
+    )
+
 pub wellFormed-out : (s : Controller) → wellFormed s ≡ true → WellFormed s
+unfolding wellFormed
 wellFormed-out s e =
-    let p = passed-out s e in
-    let sizes = sizes-exact (s .n) (s .m) .0 (p .sizes) in
-    let lists = lists-exact s .0 (p .lists) in
-    let sources = sources-exact s .0 (p .sources) in
-    let cores = cores-exact s .0 (p .cores) in
-    let spares = spares-exact s .0 (p .spares) in
+    let front : consistent s && boxesClean s ≡ true = and-l (consistent s && boxesClean s) (quiet s) e in
+    let c : Consistent s = consistent-exact s .0 (and-l (consistent s) (boxesClean s) front) in
     record {
-      some-source = sizes .some-source;
-      n-le = sizes .n-le;
-      some-core = sizes .some-core;
-      m-le = sizes .m-le;
-      sources-length = lists .0;
-      cores-length = lists .1;
-      configured-source = λ i h. (sources i h) .configured;
-      request-range = λ i h. (sources i h) .request;
-      idle-source = λ i h. (sources i h) .idle;
-      configured-core = λ k h. (cores k h) .configured;
-      empty-box = λ k h. (cores k h) .empty;
-      spare-source = λ i a b. spares .0 i b a;
-      spare-core = λ k a b. spares .1 k b a;
-      backed = boxes-exact s .0 (p .backed);
-      distinct = λ j k a b f g q. distinct-exact s .0 (p .distinct) j k a b (record { left = f; right = g; source = q });
-      clean = clean-exact s .0 (p .clean);
-      candidates-settled = λ i k a b c. candidates-exact s (sizes .some-core) .0 (p .candidates) i a c k b;
-      covered-settled = λ j k a b f. covered-exact s (sizes .some-core) .0 (p .covered) j a f k b;
+      consistent = c;
+      clean = clean-exact s .0 (and-r (consistent s) (boxesClean s) front);
+      quiet = quiet-exact s (c .some-core) .0 (and-r (consistent s && boxesClean s) (quiet s) e);
     }
 
 pub wellFormed-in : (s : Controller) → WellFormed s → wellFormed s ≡ true
+unfolding wellFormed
 wellFormed-in s w =
-    passed-in s
-    (record {
-      sizes =
-          sizes-exact (s .n) (s .m) .1
-          (record { some-source = w .some-source; n-le = w .n-le; some-core = w .some-core; m-le = w .m-le });
-      lists = lists-exact s .1 (w .sources-length, w .cores-length);
-      sources =
-          sources-exact s .1
-          (λ i h. record { configured = w .configured-source i h; request = w .request-range i h; idle = w .idle-source i h });
-      cores = cores-exact s .1 (λ k h. record { configured = w .configured-core k h; empty = w .empty-box k h });
-      spares = spares-exact s .1 (λ i b a. w .spare-source i a b, λ k b a. w .spare-core k a b);
-      backed = boxes-exact s .1 (w .backed);
-      distinct = distinct-exact s .1 (λ j k a b f. w .distinct j k a b (f .left) (f .right) (f .source));
-      clean = clean-exact s .1 (w .clean);
-      candidates = candidates-exact s (w .some-core) .1 (λ i a c k b. w .candidates-settled i k a b c);
-      covered = covered-exact s (w .some-core) .1 (λ j a f k b. w .covered-settled j k a b f);
-    })
+    and-in (and-in (consistent-exact s .1 (w .consistent)) (clean-exact s .1 (w .clean)))
+    (quiet-exact s (w .consistent .some-core) .1 (w .quiet))
+
+pub layers-exact : LayersExact
+layers-exact s = (consistent-exact s, clean-exact s, quiet-exact s)
 
 pub test-exact : TestExact
 test-exact s = (wellFormed-out s, wellFormed-in s)

@@ -7,9 +7,10 @@ use lib.Dec.{ltb, leb, eqb}
 use Rattle.model.specs.declared.Source.{Source}
 use Rattle.model.specs.declared.Core.{Core}
 use Rattle.model.specs.Records.{maxSources, noSource, noCore}
-use Rattle.model.specs.Walks.{every}
+use Rattle.lists.specs.Walks.{every}
 use Rattle.model.specs.Requests.{candidate}
-use Rattle.model.specs.WellFormed.{between, sourceInRange, coreInRange, isResetSource, isResetCore}
+use Rattle.lists.specs.Numbers.{between}
+use Rattle.model.specs.WellFormed.{sourceInRange, coreInRange, isResetSource, isResetCore}
 
 -- A source without a request.
 unfoldable pub isIdle : Source → Bool

@@ -15,7 +15,7 @@ use native.Mathlib.Omega.{arith}
 use borrow.Author.Tests.{ne-eqb, not-true, not-false}
 use Rattle.model.specs.declared.Core.{Core}
 use Rattle.model.specs.Records.{noCore}
-use Rattle.model.specs.Walks.{some}
+use Rattle.lists.specs.Walks.{some}
 use Rattle.model.specs.Requests.{holds, boxed}
 
 -- ---- looking for a box

@@ -6,7 +6,7 @@ ghost use mathlib.Core.Bool.{_&&_, not};
 ghost use lib.Dec.{ltb};
 ghost use Rattle.model.specs.Records.{maxCores, answer};
 ghost use Rattle.model.specs.Requests.{boxed as boxedIn};
-ghost use Rattle.model.specs.WellFormed.{between};
+ghost use Rattle.lists.specs.Numbers.{between};
 ghost use Rattle.model.specs.Commands.{soiled, refused as refusedOf};
 use model::Answer;
 use model::CORES;

@@ -3,7 +3,7 @@
 use Prim.Native.Nat.{ℕ, _+_, _/_, _<_}
 use mathlib.Core.List.{List}
 use native.Mathlib.Omega.{arith}
-use Rattle.model.specs.Walks.{leftHalf}
+use Rattle.lists.specs.Walks.{leftHalf}
 use Rattle.arbitration.proofs.Keys.{at-most-one, highest-inside, Beside, beside}
 use borrow.Fn.Kinds.{In}
 use borrow.Fn.PlainCycle.{Measures, is, falls, and}

@@ -50,7 +50,7 @@ use denote.Triple.Table.{entered, cited}
 use denote.Triple.Walked.{goes-none-slice, Walks, walked, walk-meets}
 use denote.Exit.{yes}
 use Rattle.model.specs.declared.Source.{Source}
-use Rattle.model.proofs.Bools.{Flag, on, off, flag}
+use Rattle.lists.proofs.Bools.{Flag, on, off, flag}
 use Rattle.borrowed.specs.declared.Extent.{Extent}
 use Rattle.borrowed.specs.Keys.{extentOf, readOf}
 use Rattle.borrowed.proofs.Filling.{Filled, Further, further-wf, zeros, zeros-are, none-filled}

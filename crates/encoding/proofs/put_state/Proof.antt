@@ -6,7 +6,7 @@ use native.Mathlib.Omega.{arith}
 use borrow.Author.Needs.{needs}
 use lib.ListN.{length}
 use Rattle.model.specs.Records.{maxSources, maxCores}
-use Rattle.model.proofs.Arrays.{unmapped}
+use Rattle.lists.proofs.Arrays.{unmapped}
 use Rattle.encoding.proofs.Writing.{Written, written-none, source-more, core-more, all-written}
 use Rattle.encoding.proofs.put_state.Statement.{statement}
 use Rattle.encoding.proofs.put_state.Tie as tie

@@ -4,7 +4,7 @@ use Prim.Native.Nat.{_-_}
 use mathlib.Core.Logic.{⊎-elim}
 use native.Mathlib.Omega.{arith}
 use Rattle.model.specs.Records.{coreAt}
-use Rattle.settling.specs.Phases.{Holding}
+use Rattle.model.specs.WellFormed.{Holding}
 use Rattle.settling.proofs.Retracting.{Retracting, retracting-none, retracting-clean, named, retracting-dirty, retracting-all}
 use borrow.Author.Needs.{needs}
 use Rattle.settling.proofs.retract_all.Statement.{statement}

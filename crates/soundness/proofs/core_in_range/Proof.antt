@@ -2,8 +2,8 @@
 use native.Mathlib.Omega.{arith}
 use borrow.Author.Needs.{needs}
 use Rattle.soundness.specs.Loops.{coreFits}
-use Rattle.model.proofs.Bools.{clash}
-use Rattle.soundness.proofs.Exact.{Exact, between-exact, refused, given, agree}
+use Rattle.lists.proofs.Bools.{clash}
+use Rattle.lists.proofs.Exact.{Exact, between-exact, refused, given, agree}
 use Rattle.soundness.proofs.Clauses.{empty-box-exact}
 use Rattle.soundness.proofs.Cores.{CoreNames, core-fits-exact}
 use Rattle.soundness.proofs.core_in_range.Statement.{statement}

@@ -1,6 +1,6 @@
 -- `soundness::in_range` meets its contract: 0 is below 1, and the other test is the upper bound's. Assumes nothing.
 use native.Mathlib.Omega.{arith}
-use Rattle.soundness.proofs.Exact.{leb-exact, between-exact, refused, agree}
+use Rattle.lists.proofs.Exact.{leb-exact, between-exact, refused, agree}
 use Rattle.soundness.proofs.in_range.Statement.{statement}
 use Rattle.soundness.proofs.in_range.Tie as tie
 

@@ -1,8 +1,8 @@
 -- `soundness::is_backed` meets its contract: each test decides one of the facts that the definition asks for. Assumes nothing.
 use borrow.Author.Tests.{not-true, not-false}
 use Rattle.soundness.specs.Loops.{cleanBacked}
-use Rattle.model.proofs.Bools.{clash}
-use Rattle.soundness.proofs.Exact.{Exact, ltb-exact, refused, agree}
+use Rattle.lists.proofs.Bools.{clash}
+use Rattle.lists.proofs.Exact.{Exact, ltb-exact, refused, agree}
 use Rattle.soundness.proofs.Cores.{CleanBacked, clean-backed-exact}
 use Rattle.soundness.proofs.is_backed.Statement.{statement}
 use Rattle.soundness.proofs.is_backed.Tie as tie

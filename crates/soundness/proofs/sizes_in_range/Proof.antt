@@ -1,7 +1,7 @@
 -- `soundness::sizes_in_range` meets its contract: each test decides one bound of the two ranges. Assumes nothing.
 use native.Mathlib.Omega.{arith}
 use Rattle.model.specs.Records.{maxCores}
-use Rattle.soundness.proofs.Exact.{leb-exact, refused, agree}
+use Rattle.lists.proofs.Exact.{leb-exact, refused, agree}
 use Rattle.soundness.proofs.Clauses.{sizes-exact}
 use Rattle.soundness.proofs.sizes_in_range.Statement.{statement}
 use Rattle.soundness.proofs.sizes_in_range.Tie as tie

@@ -8,11 +8,11 @@ use native.Mathlib.Omega.{arith}
 use lib.ListN.{getD}
 use borrow.Author.Count.{below-more}
 use Rattle.model.specs.Records.{maxSources, noSource}
-use Rattle.model.specs.Walks.{every}
-use Rattle.model.proofs.Bools.{clash}
+use Rattle.lists.specs.Walks.{every}
+use Rattle.lists.proofs.Bools.{clash}
 use Rattle.soundness.specs.Loops.{sourcesFit, spareSource, spareSourcesReset}
-use Rattle.soundness.proofs.Exact.{between-exact, refused, accepted, rejected}
-use Rattle.soundness.proofs.Turns.{since-begin, since-turn, since-end}
+use Rattle.lists.proofs.Exact.{between-exact, refused, accepted, rejected}
+use Rattle.lists.proofs.Turns.{since-begin, since-turn, since-end}
 use Rattle.soundness.proofs.Fits.{fits-pending, fits-idle, fitsAt, sources-fit-exact, fits-end}
 use Rattle.soundness.proofs.sources_fit.Statement.{statement}
 use Rattle.soundness.proofs.sources_fit.Tie as tie

@@ -10,16 +10,16 @@ use lib.ListN.{length}
 use borrow.Author.Needs.{needs}
 use Rattle.model.specs.Records.{maxSources, maxCores, coreAt}
 use Rattle.model.specs.Priorities.{topPriority}
-use Rattle.model.specs.Walks.{every}
+use Rattle.lists.specs.Walks.{every}
 use Rattle.model.specs.WellFormed.{wellFormed}
 use Rattle.model.specs.Statements.{InRange}
 use Rattle.model.proofs.Priorities.{top-lt}
 use Rattle.soundness.specs.Loops.{spareCore}
-use Rattle.model.proofs.Arrays.{unmapped}
-use Rattle.soundness.proofs.Exact.{flag-exact, refused, given, accepted, rejected, agree}
+use Rattle.lists.proofs.Arrays.{unmapped}
+use Rattle.lists.proofs.Exact.{flag-exact, refused, given, accepted, rejected, agree}
 use Rattle.soundness.proofs.Clauses.{sizes-exact}
 use Rattle.soundness.proofs.Test.{test-exact}
-use Rattle.soundness.proofs.Turns.{since-begin, since-turn, since-end}
+use Rattle.lists.proofs.Turns.{since-begin, since-turn, since-end}
 use Rattle.soundness.proofs.Fits.{sources-fit-exact}
 use Rattle.soundness.proofs.Cores.{CoreNames, core-fits-exact, CoreSound, core-sound, idAt, backedAt, names-out, backed-out}
 use Rattle.soundness.proofs.Marks.{Boxes, boxes-begin, marked-twice, filled-turn, empty-turn, Lowest, lowest-begin, lowest-lower, lowest-same}
@@ -79,7 +79,7 @@ returns c =
     refused (test-exact s)
     (λ w.
     rejected (sizes-exact (s .n) (s .m)) (c .before .sizes-in-range .ensures) (c .if1 .taken)
-    (record { some-source = w .some-source; n-le = w .n-le; some-core = w .some-core; m-le = w .m-le }))
+    (record { some-source = w .consistent .some-source; n-le = w .consistent .n-le; some-core = w .consistent .some-core; m-le = w .consistent .m-le }))
 
 cast-m : tie.Need-cast-m Inv-loop μ-loop Inv-loop2 μ-loop2
 cast-m c = omega (arith, in-range c)
@@ -221,7 +221,7 @@ returns-6 : tie.Need-returns-6 Inv-loop μ-loop Inv-loop2 μ-loop2
 returns-6 c =
     let s = c .before .before .before .before .before .before .before .before .before .args .t1 in
     refused (test-exact s)
-    (λ w. rejected (spare-cores-exact (s .cores) (s .m)) (fresh-is (c .before)) (c .if10 .taken) (λ i h g. w .spare-core i g h))
+    (λ w. rejected (spare-cores-exact (s .cores) (s .m)) (fresh-is (c .before)) (c .if10 .taken) (λ i h g. w .consistent .spare-core i g h))
 
 cast-sources-fit : tie.Need-cast-sources-fit Inv-loop μ-loop Inv-loop2 μ-loop2
 cast-sources-fit c = search needs

@@ -6,7 +6,7 @@ use lib.ListN.{length}
 use borrow.Author.Needs.{needs}
 use Rattle.model.specs.Records.{maxCores, noCore}
 use Rattle.model.specs.Commands.{soiled}
-use Rattle.model.proofs.Arrays.{unmapped}
+use Rattle.lists.proofs.Arrays.{unmapped}
 use Rattle.steps.proofs.CoreLoops.{front, front-none, front-more, front-all}
 use Rattle.steps.proofs.all_soiled.Statement.{statement}
 use Rattle.steps.proofs.all_soiled.Tie as tie

@@ -13,9 +13,9 @@ use lib.ListN.{length, getD, take, length-take}
 use lib.Seq.{ext-getD, getD-take}
 use lib.Dec.{ltb}
 use borrow.Author.Tests.{ltb-true, ltb-false}
-use Rattle.model.specs.Ledger.{insertDown, sortDown}
-use Rattle.model.proofs.Counting.{reach-under, Reach, up, under, reach-cases}
-use Rattle.ledger.proofs.Counting.{count}
+use Rattle.lists.specs.Sorting.{insertDown, sortDown}
+use Rattle.lists.proofs.Counting.{reach-under, Reach, up, under, reach-cases}
+use Rattle.lists.proofs.Counts.{count}
 
 abbrev Falling : ℕ → List ℕ → Type 0
 Falling top [] = Unit {0}

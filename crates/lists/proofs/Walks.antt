@@ -11,8 +11,8 @@ use native.Mathlib.Omega.{arith}
 use native.Mathlib.Nat.{not-suc-le-zero}
 use native.Mathlib.Numerals.{add-one}
 use borrow.Author.Count.{below-more}
-use Rattle.model.specs.Walks.{every, some}
-use Rattle.model.proofs.Bools.{and-in, and-l, and-r, or-in-l, or-in-r, or-off, clash, refuted, Flag, on, off, flag}
+use Rattle.lists.specs.Walks.{every, some}
+use Rattle.lists.proofs.Bools.{and-in, and-l, and-r, or-in-l, or-in-r, or-off, clash, refuted, Flag, on, off, flag}
 
 -- the last number below suc k is k
 pub below-suc : (P : ℕ → Type 0) (k : ℕ) → ((i : ℕ) → i < k → P i) → P k → (i : ℕ) → i < suc k → P i

@@ -12,8 +12,8 @@ use native.Mathlib.Decide.{ℕ-discrete}
 use lib.ListN.{length, length-append}
 use lib.Dec.{eqb}
 use borrow.Author.Tests.{eq-eqb, ne-eqb}
-use Rattle.model.specs.Ledger.{gather, row, write}
-use Rattle.model.proofs.Counting.{total, total-le, reach, reached, reached-le}
+use Rattle.lists.specs.Rows.{gather, row, write}
+use Rattle.lists.proofs.Counting.{total, total-le, reach, reached, reached-le}
 
 -- ---- a sum sent into another
 

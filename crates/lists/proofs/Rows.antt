@@ -8,7 +8,7 @@ use native.Mathlib.Omega.{arith}
 use native.Mathlib.Numerals.{add-one}
 use lib.ListN.{length, getD, take, drop, length-append, List·getD-append}
 use lib.Seq.{take-add, drop-drop, drop-append-add, getD-at, ext-getD}
-use Rattle.model.specs.Bytes.{joined, tabulated}
+use Rattle.lists.specs.Rows.{joined, tabulated}
 
 -- ---- the first records of a row
 

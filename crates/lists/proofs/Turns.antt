@@ -9,9 +9,9 @@ use native.Mathlib.Omega.{arith}
 use native.Mathlib.Numerals.{add-one}
 use lib.Dec.{ltb}
 use borrow.Author.Tests.{lt-ltb, le-ltb, not-true, not-false}
-use Rattle.model.specs.Walks.{every}
-use Rattle.model.proofs.Bools.{or-in-l}
-use Rattle.model.proofs.Walks.{every-in}
+use Rattle.lists.specs.Walks.{every}
+use Rattle.lists.proofs.Bools.{or-in-l}
+use Rattle.lists.proofs.Walks.{every-in}
 
 abbrev pub since : (ℕ → Bool) → ℕ → ℕ → Bool
 since f from i = ltb i from || f i

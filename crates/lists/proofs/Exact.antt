@@ -13,10 +13,10 @@ use mathlib.Core.Logic.{_↔_}
 use mathlib.Core.Bool.{Bool, true, false, not, _&&_, _||_}
 use lib.Dec.{ltb, leb, eqb}
 use borrow.Author.Tests.{ltb-true, ltb-false, leb-true, eqb-true, lt-ltb, le-ltb, le-leb, eq-eqb, not-true, not-false}
-use Rattle.model.specs.Walks.{every}
-use Rattle.model.specs.WellFormed.{between}
-use Rattle.model.proofs.Bools.{and-in, and-l, and-r, not-in, clash, Flag, on, off, flag}
-use Rattle.model.proofs.Walks.{every-out, every-in}
+use Rattle.lists.specs.Walks.{every}
+use Rattle.lists.specs.Numbers.{between}
+use Rattle.lists.proofs.Bools.{and-in, and-l, and-r, not-in, clash, Flag, on, off, flag}
+use Rattle.lists.proofs.Walks.{every-out, every-in}
 
 infixl 35 _and_
 abbrev pub Exact : Bool → Type 0 → Type 0

@@ -1,11 +1,12 @@
 -- Walks over the numbers below a bound, and the first winner of a row. Definitions only. Assumes nothing.
--- Source: document 01, "Settling", the comparator tree.
 --   every n f, some n f      f holds of each, of some number below n; every 0 f holds, some 0 f does not
+--   FirstOf above n w        w is the first highest of 0, .., n - 1
 --   winner above x y         the later contender y replaces x only if it is above x: x keeps a tie
 --   walk above n             the first highest of 0, .., n - 1, met in that order; 0 for an empty row
 --   tree above d lo len      the same of lo, .., lo + len - 1 by halving; d bounds the depth, and len is enough
 --   comparisons d len        the comparisons on the longest path of that tree
-use Prim.Native.Nat.{ℕ, zero, suc, _+_, _-_, _/_, max}
+use Prim.Native.Nat.{ℕ, zero, suc, _+_, _-_, _/_, _<_, _≤_, max}
+use mathlib.Core.Path.{_≡_}
 use mathlib.Core.Bool.{Bool, true, false, _&&_, _||_, cond}
 use lib.Dec.{ltb}
 
@@ -40,3 +41,9 @@ comparisons zero len = 0
 comparisons (suc d) len =
     let c : ℕ = suc (max (comparisons d (leftHalf len)) (comparisons d (len / 2))) in
     cond (ltb 1 len) c 0
+
+-- w is the first of the highest among 0, .., n - 1: above all before it, and none after it is above it.
+pub record FirstOf (above : ℕ → ℕ → Bool) (n w : ℕ) : Type 0 where
+  pub inside : w < n
+  pub before : (j : ℕ) → j < w → above w j ≡ true
+  pub after : (j : ℕ) → w ≤ j → j < n → above j w ≡ false

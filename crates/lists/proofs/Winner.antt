@@ -17,9 +17,8 @@ use native.Mathlib.Omega.{arith}
 use native.Mathlib.Decide.{decLt}
 use lib.Dec.{ltb}
 use borrow.Author.Tests.{ltb-true, ltb-false, le-ltb}
-use Rattle.model.specs.Walks.{winner, walk, leftHalf, tree}
-use Rattle.model.specs.Statements.{FirstOf}
-use Rattle.model.proofs.Bools.{clash, refuted, confirmed}
+use Rattle.lists.specs.Walks.{winner, walk, leftHalf, tree, FirstOf}
+use Rattle.lists.proofs.Bools.{clash, refuted, confirmed}
 
 -- ---- weak orders
 

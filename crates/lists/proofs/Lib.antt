@@ -1,0 +1,13 @@
+-- Laws over any list, order, count or walk.
+pub mod Depth
+pub mod Bools
+pub mod Walks
+pub mod Arrays
+pub mod Writes
+pub mod Counting
+pub mod Winner
+pub mod Exact
+pub mod Turns
+pub mod Counts
+pub mod Sorting
+pub mod Rows
