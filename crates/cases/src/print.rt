@@ -104,18 +104,58 @@ fn holder(cores: [Core; CORES], m: usize, id: usize) -> usize {
     m
 }
 
-// Who owns a pending request: the source, a box, or the software.
-fn owner(r: Source, k: usize, m: usize) {
+// ---- the owner of a pending request, as a code: the source, the software, or from 2 on the box of core 0, of core 1 and so on
+
+const SOURCE: usize = 0;
+
+const SOFTWARE: usize = 1;
+
+const BOX: usize = 2;
+
+// The owner of a pending request, given the core whose box names it, or m.
+fn owner(r: Source, k: usize, m: usize) -> usize {
     if !r.delivered {
+        return SOURCE;
+    }
+    if k < m {
+        if k < CORES {
+            return BOX + k;
+        }
+    }
+    SOFTWARE
+}
+
+// Whether source `id` is pending, with its request owned as the table wants it.
+pub fn owned(s: Controller, id: u16, wanted: u16) -> bool {
+    let at = id as usize;
+    if at == 0 {
+        return false;
+    }
+    if at > model::SOURCES {
+        return false;
+    }
+    let r = s.sources[at - 1];
+    if !r.pending {
+        return false;
+    }
+    let m = s.m as usize;
+    let cores = s.cores;
+    owner(r, holder(cores, m, at), m) == wanted as usize
+}
+
+fn owner_text(owner: usize) {
+    if owner == SOURCE {
         text(b"source");
         return;
     }
-    if k < m {
-        text(b"box ");
-        io::print_decimal(1, k as u64);
+    if owner == SOFTWARE {
+        text(b"software");
         return;
     }
-    text(b"software");
+    text(b"box ");
+    if BOX <= owner {
+        io::print_decimal(1, (owner - BOX) as u64);
+    }
 }
 
 fn owners(s: Controller) {
@@ -130,42 +170,97 @@ fn owners(s: Controller) {
                 text(b"  ");
                 io::print_decimal(1, i as u64 + 1);
                 text(b": ");
-                owner(r, holder(cores, m, i + 1), m);
+                owner_text(owner(r, holder(cores, m, i + 1), m));
             }
         }
         i += 1;
     }
 }
 
-// "0" or the number for no, the claimed id if there is one, the cycles, the current priorities, and each pending request's owner.
-pub fn answer(a: Answer) {
-    text(b": ");
-    number(a.number as u16);
-    if 0 < a.id.0 {
-        text(b", id ");
-        number(a.id.0);
+// A number for no, in words.
+fn words(refusal: u8) {
+    match refusal {
+        1 => text(b"the state isn't sound, or the lent record is bad"),
+        2 => text(b"a size is out of range, or the lent list is too long"),
+        3 => text(b"there is no such core"),
+        4 => text(b"there is no such source"),
+        5 => text(b"the priority is out of range"),
+        6 => text(b"the source is pending already"),
+        7 => text(b"the box is empty"),
+        _ => text(b"the request isn't claimed"),
     }
+}
+
+fn outcome(refusal: u8) {
+    if refusal == 0 {
+        text(b": accepted, ");
+        return;
+    }
+    text(b": refused by ");
+    number(refusal as u16);
+    text(b" (");
+    words(refusal);
+    text(b"), ");
+}
+
+// How many there are of something: "1 cycle", "2 cycles".
+fn counted(x: u16, what: &[u8]) {
+    number(x);
+    text(b" ");
+    text(what);
+    if x != 1 {
+        text(b"s");
+    }
+}
+
+// "accepted" or the number for no, the claimed id if there is one, the cycles, the current priorities, and each pending request's owner.
+pub fn answer(a: Answer) {
+    outcome(a.number);
+    if 0 < a.id.0 {
+        text(b"id ");
+        number(a.id.0);
+        text(b", ");
+    }
+    counted(a.cycles, b"cycle");
     text(b", ");
-    number(a.cycles);
-    text(b" cycles, ");
     let s = a.state;
     priorities(s);
     owners(s);
+}
+
+// Whether a marked row is as the table wants it.
+pub fn verdict(wanted: bool) {
+    if wanted {
+        text(b"   as the table wants");
+        return;
+    }
+    text(b"   NOT AS THE TABLE WANTS");
+}
+
+pub fn line_end() {
     text(b"\n");
+}
+
+// How many marked rows are as the table wants, of how many.
+pub fn count(good: u16, marked: u16) {
+    text(b"\n");
+    number(good);
+    text(b" of ");
+    number(marked);
+    text(b" marked rows are as the table wants\n");
 }
 
 // What making a controller of some sizes answers.
 pub fn making(n: u16, m: u16, a: Answer) {
     text(b"make ");
-    number(n);
-    text(b" sources, ");
-    number(m);
-    text(b" cores: ");
-    number(a.number as u16);
-    text(b", made ");
-    number(a.state.n);
-    text(b" and ");
-    number(a.state.m);
+    counted(n, b"source");
+    text(b", ");
+    counted(m, b"core");
+    outcome(a.number);
+    text(b"handed back: ");
+    counted(a.state.n, b"source");
+    text(b", ");
+    counted(a.state.m, b"core");
     text(b"\n");
 }
 

@@ -1,61 +1,137 @@
-/* The header against the library: T2 to T5 of document 01's table from C, and both calls on lent records. */
+/* The header against the library, in C and in C++: T2 to T8 of document 01's table by the typed commands, every accessor, a list, the
+ * calls on lent records, refusals of each kind that a host can meet, and the version. */
+#include <errno.h>
 #include <stdio.h>
 #include <string.h>
 
 #include "psic.h"
 
-static int failures = 0;
+static int passed = 0;
+static int failed = 0;
 
 static void expect(bool holds, const char *what) {
-    if (!holds) {
+    if (holds) {
+        passed++;
+    } else {
         printf("check.c: %s\n", what);
-        failures++;
+        failed++;
     }
 }
 
-static uint64_t command(uint8_t *state, uint16_t number, uint16_t at, uint16_t priority) {
-    return psic_execute(state, PSIC_STATE_SIZE, number, at, priority);
+static bool answers(psic_answer answer, psic_number number, uint16_t id, uint16_t cycles) {
+    return answer.number == number && answer.id.number == id && answer.cycles == cycles;
+}
+
+/* 32 sources, 2 cores, every source unmasked with priority equal to its id. */
+static void start(psic_state *state) {
+    memset(state, 0xff, sizeof *state);
+    expect(answers(psic_init(state, 32, 2), PSIC_OK, 0, 0), "32 sources and 2 cores are made");
+    for (uint16_t id = 1; id <= 32; id++) {
+        psic_set_source_priority(state, psic_source_id_of(id), id);
+        psic_unmask(state, psic_source_id_of(id));
+    }
+}
+
+static bool shows(const psic_state *state, uint16_t first, uint16_t second) {
+    return psic_current_priority(state, psic_core_id_of(0)) == first && psic_current_priority(state, psic_core_id_of(1)) == second;
+}
+
+static bool owned(const psic_state *state, uint16_t id, psic_owner_kind kind, uint16_t core) {
+    psic_owner owner = psic_owner_of(state, psic_source_id_of(id));
+    return owner.kind == kind && owner.core.number == core;
+}
+
+static void table(void) {
+    psic_state state;
+    start(&state);
+    const psic_core_id core_0 = psic_core_id_of(0);
+    expect(answers(psic_trigger(&state, psic_source_id_of(4)), PSIC_OK, 0, 1) && shows(&state, 4, 0), "T2");
+    expect(answers(psic_trigger(&state, psic_source_id_of(3)), PSIC_OK, 0, 1) && shows(&state, 4, 3), "T3");
+    expect(answers(psic_trigger(&state, psic_source_id_of(5)), PSIC_OK, 0, 1) && shows(&state, 4, 5), "T4");
+    expect(owned(&state, 3, PSIC_OWNER_SOURCE, 0) && owned(&state, 5, PSIC_OWNER_BOX, 1), "T4: 3 is put back");
+    expect(answers(psic_claim(&state, core_0), PSIC_OK, 4, 0) && shows(&state, 4, 5), "T5");
+    expect(owned(&state, 4, PSIC_OWNER_SOFTWARE, 0) && owned(&state, 6, PSIC_OWNER_NONE, 0), "T5: the software owns 4, nobody 6");
+    expect(answers(psic_claim(&state, core_0), PSIC_EMPTY_BOX, 0, 0), "T5 again: 7");
+    expect(answers(psic_complete(&state, psic_source_id_of(5)), PSIC_NOT_CLAIMED, 0, 0), "T6: 8");
+    expect(answers(psic_complete(&state, psic_source_id_of(4)), PSIC_OK, 0, 0) && shows(&state, 4, 5), "T7");
+    expect(answers(psic_set_core_priority(&state, core_0, 0), PSIC_OK, 0, 3) && shows(&state, 5, 3), "T8");
+    expect(answers(psic_claim(&state, core_0), PSIC_OK, 5, 0), "5 is claimed");
+    expect(answers(psic_redeliver(&state, psic_source_id_of(5)), PSIC_OK, 0, 1) && shows(&state, 5, 5), "5 is delivered again");
+}
+
+static void refusals(void) {
+    psic_state state;
+    start(&state);
+    const psic_state before = state;
+    expect(answers(psic_set_core_priority(&state, psic_core_id_of(2), 0), PSIC_BAD_CORE, 0, 0), "3");
+    expect(answers(psic_mask(&state, psic_source_id_of(33)), PSIC_BAD_SOURCE, 0, 0), "4");
+    expect(answers(psic_set_source_priority(&state, psic_source_id_of(4), 128), PSIC_BAD_PRIORITY, 0, 0), "5");
+    expect(psic_execute(state.bytes, sizeof state.bytes, 8, 4, 0) == PSIC_UNREADABLE, "a command's number above 7: 255");
+    expect(psic_execute(state.bytes, sizeof state.bytes - 1, PSIC_TRIGGER, 4, 0) == PSIC_UNREADABLE, "a short buffer: 255");
+    expect(psic_init(&state, 129, 2).number == PSIC_BAD_SIZE, "129 sources: 2");
+    expect(memcmp(&state, &before, sizeof state) == 0, "a refusal leaves the state as it was");
+    psic_trigger(&state, psic_source_id_of(4));
+    expect(answers(psic_trigger(&state, psic_source_id_of(4)), PSIC_PENDING, 0, 0), "T12: 6");
+    state.bytes[0] = 0; /* no sources */
+    expect(answers(psic_trigger(&state, psic_source_id_of(4)), PSIC_UNSOUND, 0, 0), "1");
+    expect(strcmp(psic_in_words(PSIC_EMPTY_BOX), "the box is empty") == 0, "7 in words");
+    expect(strcmp(psic_in_words(77), "no number of this library") == 0, "77 in words");
+}
+
+static void accessors(void) {
+    psic_state state;
+    start(&state);
+    psic_trigger(&state, psic_source_id_of(4));
+    expect(psic_sources(&state) == 32 && psic_cores(&state) == 2 && psic_top_priority(&state) == 127, "sizes and top priority");
+    psic_source source = psic_source_record(&state, psic_source_id_of(4));
+    expect(source.configured == 4 && !source.masked && source.pending && source.delivered && source.priority == 4, "record of 4");
+    psic_core core = psic_core_record(&state, psic_core_id_of(0));
+    psic_message_box box = psic_box(&state, psic_core_id_of(0));
+    expect(core.configured == 0 && core.message.filled && box.source.number == 4 && box.priority == 4 && !box.dirty, "core 0's box");
+    expect(psic_source_record(&state, psic_source_id_of(0)).configured == 0, "no source 0");
+    expect(psic_source_record(&state, psic_source_id_of(33)).configured == 0, "no source 33");
+    expect(psic_current_priority(&state, psic_core_id_of(2)) == 0, "no core 2");
+    memset(&state, 0xff, sizeof state);
+    expect(psic_source_record(&state, psic_source_id_of(65535)).configured == 0, "any bytes can be read: sources");
+    expect(psic_current_priority(&state, psic_core_id_of(65535)) == 0, "any bytes can be read: cores");
+}
+
+static void lists(void) {
+    psic_state state;
+    start(&state);
+    const uint8_t list[3 * PSIC_COMMAND_SIZE] = {PSIC_TRIGGER, 4, 0, 0, 0, PSIC_CLAIM, 0, 0, 0, 0, PSIC_CLAIM, 0, 0, 0, 0};
+    const uint8_t right[3 * PSIC_ANSWER_SIZE] = {0, 0, 0, 1, 0, 0, 4, 0, 0, 0, 7, 0, 0, 0, 0};
+    uint8_t got[3 * PSIC_ANSWER_SIZE] = {0};
+    expect(psic_run(state.bytes, sizeof state.bytes, list, sizeof list, got, sizeof got) == 3, "a list of three");
+    expect(memcmp(got, right, sizeof right) == 0, "one cycle; id 4; 7");
+    expect(psic_run(state.bytes, sizeof state.bytes, list, 3, got, sizeof got) == PSIC_NO_COUNT, "a cut list is refused");
+    expect(psic_run(state.bytes, sizeof state.bytes, list, sizeof list, got, 14) == PSIC_NO_COUNT, "room for two answers only");
+}
+
+static void lent_records(void) {
+    psic_source sources[129] = {{1, true, true, false, 9}, {1, false, true, false, 5}, {1, false, true, false, 5}};
+    psic_found found = psic_highest_in(sources, 3);
+    expect(found.number == PSIC_OK && found.position == 2, "the first highest candidate of a lent list");
+    expect(psic_highest_in(sources, 0).position == 0, "an empty list has none");
+    found = psic_highest_in(sources, 129);
+    expect(found.number == PSIC_BAD_SIZE && found.position == 0, "129 records: 2");
+    psic_core core = {1, {true, false, {7}, 3}};
+    psic_claimed taken = psic_claim_in_place(&core);
+    expect(taken.number == PSIC_OK && taken.id.number == 7 && core.configured == 3 && !core.message.filled, "a lent record is claimed");
+    expect(psic_claim_in_place(&core).number == PSIC_EMPTY_BOX, "and is empty after that");
+    psic_core bad = {3, {true, false, {7}, 3}};
+    expect(psic_claim_in_place(&bad).number == PSIC_UNSOUND && bad.message.filled, "a box that isn't above its core: 1, left as lent");
 }
 
 int main(void) {
-    uint8_t state[PSIC_STATE_SIZE];
-    expect(PSIC_NUMBER(psic_make(32, 2, state, sizeof state)) == 0, "32 sources and 2 cores are made");
-    expect(psic_make(32, 2, state, sizeof state - 1) == PSIC_UNREADABLE, "a short buffer is refused");
-    uint8_t made[PSIC_STATE_SIZE];
-    memcpy(made, state, sizeof made);
-    expect(PSIC_NUMBER(psic_make(129, 2, state, sizeof state)) == 2, "129 sources are refused by 2");
-    expect(memcmp(state, made, sizeof made) == 0, "and leave the buffer as it was");
-    for (uint16_t id = 1; id <= 32; id++) {
-        command(state, 0, id, id);
-        command(state, 2, id, 0);
-    }
-    expect(PSIC_CYCLES(command(state, 4, 4, 0)) == 1, "T2: one cycle");
-    command(state, 4, 3, 0);
-    command(state, 4, 5, 0);
-    uint64_t claimed = command(state, 5, 0, 0);
-    expect(PSIC_NUMBER(claimed) == 0 && PSIC_ID(claimed) == 4, "T5: id 4 is claimed");
-    expect(PSIC_NUMBER(command(state, 5, 0, 0)) == 7, "T5 again: 7");
-    expect(PSIC_NUMBER(command(state, 7, 5, 0)) == 8, "T6: 8");
-
-    uint8_t list[2 * PSIC_COMMAND_SIZE] = {7, 4, 0, 0, 0, 3, 0, 0, 0, 0};
-    uint8_t answers[2 * PSIC_ANSWER_SIZE];
-    expect(psic_run(state, sizeof state, list, sizeof list, answers, sizeof answers) == 2, "T7 and T8 in one list");
-    const uint8_t right[2 * PSIC_ANSWER_SIZE] = {0, 0, 0, 0, 0, 0, 0, 0, 3, 0};
-    expect(memcmp(answers, right, sizeof right) == 0, "T7: 0 cycles; T8: 3 cycles");
-    expect(psic_run(state, sizeof state, list, 3, answers, sizeof answers) == PSIC_NO_COUNT, "a cut list is refused");
-
-    psic_source sources[3] = {
-        {.configured = 1, .pending = true, .masked = true, .priority = 9},
-        {.configured = 1, .pending = true, .priority = 5},
-        {.configured = 1, .pending = true, .priority = 5},
-    };
-    psic_found found = psic_highest_in(sources, 3);
-    expect(found.number == 0 && found.position == 2, "the first highest candidate of a lent list");
-    psic_core core = {.configured = 1, .message = {.filled = true, .source = 7, .priority = 3}};
-    psic_claimed taken = psic_claim_in_place(&core);
-    expect(taken.number == 0 && taken.id == 7 && core.configured == 3 && !core.message.filled, "a lent record is claimed");
-    expect(psic_claim_in_place(&core).number == 7, "and is empty after that");
-
-    printf("%d passed, %d failed\n", failures == 0, failures);
-    return failures != 0;
+    errno = 77;
+    table();
+    refusals();
+    accessors();
+    lists();
+    lent_records();
+    expect(errno == 77, "errno is left alone");
+    expect(psic_version() == PSIC_VERSION, "the header is the library's");
+    printf("%d passed, %d failed\n", passed, failed);
+    return failed != 0;
 }

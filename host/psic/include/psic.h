@@ -1,4 +1,25 @@
-/* The proved PSIC model. docs/ENCODING.md has the layout of the bytes. */
+/*
+ * The proved model of the PSIC interrupt controller, for programs in C11 and C++11 on x86-64 Linux.
+ *
+ * tools/library builds libpsic.a and puts it beside this header; link with -lpsic, or by pkg-config. A controller's state is
+ * PSIC_STATE_SIZE bytes that the host owns. "Document 01" is the paper of exact rules; its words are quoted.
+ *
+ *   psic_state state;
+ *   if (psic_init(&state, 32, 2).number != PSIC_OK) ..               a fresh controller: 32 sources, 2 cores
+ *   psic_unmask(&state, psic_source_id_of(4));
+ *   psic_answer answer = psic_trigger(&state, psic_source_id_of(4));
+ *   if (answer.number != PSIC_OK) puts(psic_in_words(answer.number));
+ *   uint16_t shown = psic_current_priority(&state, psic_core_id_of(0));
+ *
+ * What holds of every call:
+ *   - It ends and answers, whatever the bytes and numbers that it is given.
+ *   - A number other than PSIC_OK leaves every buffer and record as it was, byte for byte, with id 0 and 0 cycles.
+ *     That is also so of psic_init and psic_make: the state then has no content of theirs, so look at the number.
+ *   - It allocates nothing, waits for nothing, keeps nothing between calls and doesn't touch errno. It may be called from a signal
+ *     handler or an interrupt routine, and takes less than 16 KB of stack.
+ *   - Threads may call at once on different states. On one state a call must be alone: the host locks, if it shares one.
+ *   - The buffers and records of one call must not overlap, and no pointer may be null, also where its length is 0.
+ */
 #ifndef PSIC_H
 #define PSIC_H
 
@@ -6,32 +27,114 @@
 #include <stddef.h>
 #include <stdint.h>
 
-#define PSIC_STATE_SIZE 1156
-#define PSIC_COMMAND_SIZE 5
-#define PSIC_ANSWER_SIZE 5
+/* The version of this header: ten thousand times the major number, a hundred times the minor one, and the patch. */
+#define PSIC_VERSION 10000u
+#define PSIC_VERSION_TEXT "1.0.0"
 
-/* Answered where bytes encode no state, a command's number is above 7, a state's buffer is of another length, a list is no whole number
-   of commands, or the answers have no room: nothing is written. */
-#define PSIC_UNREADABLE 255u
+/* The largest sizes: "n sources, 1 to 128", "m cores, 1 to 32". */
+#define PSIC_MAX_SOURCES 128u
+#define PSIC_MAX_CORES 32u
+
+/* Bytes of a state, of a command and of an answer; docs/ENCODING.md has their layout. */
+#define PSIC_STATE_SIZE 1156u
+#define PSIC_COMMAND_SIZE 5u
+#define PSIC_ANSWER_SIZE 5u
+
+/* psic_run's answer where it runs nothing and writes nothing. */
 #define PSIC_NO_COUNT UINT64_MAX
 
-/* An answer's parts: document 01's number, the claimed id, the cycles. */
-#define PSIC_NUMBER(answer) ((uint8_t)(answer))
-#define PSIC_ID(answer) ((uint16_t)((answer) >> 8))
-#define PSIC_CYCLES(answer) ((uint16_t)((answer) >> 24))
+#ifdef __cplusplus
+#define PSIC_ASSERT_SIZE(type, size) static_assert(sizeof(type) == (size), #type " has the library's size")
+extern "C" {
+#else
+#define PSIC_ASSERT_SIZE(type, size) _Static_assert(sizeof(type) == (size), #type " has the library's size")
+#endif
 
+/* ---- names for numbers ---- */
+
+/* The eight commands, with document 01's effect of each before settling. */
+typedef enum {
+    PSIC_SET_SOURCE_PRIORITY = 0, /* "configured priority only; a pending request keeps its own" */
+    PSIC_MASK = 1,                /* "sets the mask; a box keeps what it has" */
+    PSIC_UNMASK = 2,              /* the same */
+    PSIC_SET_CORE_PRIORITY = 3,   /* "configured priority; every filled box, on all cores, becomes dirty" */
+    PSIC_TRIGGER = 4,             /* "pending, waiting, priority copied; also when masked" */
+    PSIC_CLAIM = 5,               /* "answers the box's id; configured priority becomes the box's; box emptied" */
+    PSIC_REDELIVER = 6,           /* "a claimed request waits again" */
+    PSIC_COMPLETE = 7             /* "a claimed request ends; pending and delivered off" */
+} psic_command;
+
+/* Document 01's numbers for no, each with its row: "given exactly when, no earlier check refusing". They are checked in the order
+ * 1, then 3 or 4, then 5, then 6, 7 or 8. */
+typedef enum {
+    PSIC_OK = 0,
+    PSIC_UNSOUND = 1,      /* "the state isn't sound, or a filled lent record is bad" */
+    PSIC_BAD_SIZE = 2,     /* "a controller is asked for with n or m out of range, or a lent list is too long" */
+    PSIC_BAD_CORE = 3,     /* "core is m or above" */
+    PSIC_BAD_SOURCE = 4,   /* "id is 0 or above n" */
+    PSIC_BAD_PRIORITY = 5, /* "source priority 0 or above top; core priority above top" */
+    PSIC_PENDING = 6,      /* "trigger of a pending source" */
+    PSIC_EMPTY_BOX = 7,    /* "claim on an empty box, in a state or in a lent record" */
+    PSIC_NOT_CLAIMED = 8,  /* "redeliver or complete of a request that isn't claimed" */
+    PSIC_UNREADABLE = 255  /* none of document 01's: a state's buffer of another length or with a flag that is neither 0 nor 1, or a
+                              command's number above 7 */
+} psic_number;
+
+/* A number for no in words; of another number, that it is none. */
+static inline const char *psic_in_words(unsigned number) {
+    switch (number) {
+    case PSIC_OK: return "accepted";
+    case PSIC_UNSOUND: return "the state isn't sound, or the lent record is bad";
+    case PSIC_BAD_SIZE: return "a size is out of range, or the lent list is too long";
+    case PSIC_BAD_CORE: return "there is no such core";
+    case PSIC_BAD_SOURCE: return "there is no such source";
+    case PSIC_BAD_PRIORITY: return "the priority is out of range";
+    case PSIC_PENDING: return "the source is pending already";
+    case PSIC_EMPTY_BOX: return "the box is empty";
+    case PSIC_NOT_CLAIMED: return "the request isn't claimed";
+    case PSIC_UNREADABLE: return "the bytes can't be read";
+    default: return "no number of this library";
+    }
+}
+
+/* ---- records ---- */
+
+/* A source's id, 1 to n; 0 means none. A type of its own, so that a core can't be handed where a source is due. */
 typedef struct {
-    uint16_t configured;
+    uint16_t number;
+} psic_source_id;
+
+/* A core's number, 0 to m - 1. */
+typedef struct {
+    uint16_t number;
+} psic_core_id;
+
+static inline psic_source_id psic_source_id_of(uint16_t number) {
+    psic_source_id id;
+    id.number = number;
+    return id;
+}
+
+static inline psic_core_id psic_core_id_of(uint16_t number) {
+    psic_core_id core;
+    core.number = number;
+    return core;
+}
+
+/* A source and its request. */
+typedef struct {
+    uint16_t configured; /* the priority of its next request */
     bool masked;
     bool pending;
     bool delivered;
-    uint16_t priority;
+    uint16_t priority; /* the pending request's own priority, copied from the configured one at trigger; 0 if nothing is pending */
 } psic_source;
 
+/* A core's box. An empty one has id 0, priority 0 and isn't dirty. */
 typedef struct {
     bool filled;
     bool dirty;
-    uint16_t source;
+    psic_source_id source;
     uint16_t priority;
 } psic_message_box;
 
@@ -40,29 +143,214 @@ typedef struct {
     psic_message_box message;
 } psic_core;
 
+/* The answer of the search over a lent list: a psic_number, and position plus one of what it found, 0 for no candidate. */
 typedef struct {
     uint8_t number;
     uint16_t position;
 } psic_found;
 
+/* The answer of the claim of a lent record: a psic_number, and the claimed id. */
 typedef struct {
     uint8_t number;
-    uint16_t id;
+    psic_source_id id;
 } psic_claimed;
 
-/* A fresh controller of n sources and m cores. A refusal by 2 leaves the buffer as it was. */
+/* What a command answers: the claimed id is 0 but for an accepted claim; the cycles are retractions plus deliveries. */
+typedef struct {
+    psic_number number;
+    psic_source_id id;
+    uint16_t cycles;
+} psic_answer;
+
+/* A controller's state. psic_init makes one; a copy is a controller of its own. */
+typedef struct {
+    uint8_t bytes[PSIC_STATE_SIZE];
+} psic_state;
+
+PSIC_ASSERT_SIZE(psic_source_id, 2);
+PSIC_ASSERT_SIZE(psic_core_id, 2);
+PSIC_ASSERT_SIZE(psic_source, 8);
+PSIC_ASSERT_SIZE(psic_message_box, 6);
+PSIC_ASSERT_SIZE(psic_core, 8);
+PSIC_ASSERT_SIZE(psic_found, 4);
+PSIC_ASSERT_SIZE(psic_claimed, 4);
+PSIC_ASSERT_SIZE(psic_state, PSIC_STATE_SIZE);
+
+/* ---- the library's calls: proved, on any bytes ---- */
+
+/* The library's version, to be held against PSIC_VERSION. */
+uint32_t psic_version(void);
+
+/* A fresh controller of n sources and m cores. As the next call, it answers number + 256 * id + 2^24 * cycles. */
 uint64_t psic_make(uint16_t n, uint16_t m, uint8_t *state, size_t state_len);
 
-/* One command, by its number 0 to 7, with the id or core and the priority. */
+/* One command, by its psic_command number, with the id or core and the priority. */
 uint64_t psic_execute(uint8_t *state, size_t state_len, uint16_t number, uint16_t at, uint16_t priority);
 
-/* A list of commands; an answer for each. Returns how many were taken. */
+/* A list of commands, PSIC_COMMAND_SIZE bytes each, and an answer of PSIC_ANSWER_SIZE bytes for each at the front of answers. A refused
+ * command is answered and the list goes on; a command with a number above 7 ends it. Returns how many commands were taken;
+ * PSIC_NO_COUNT, with nothing written, if the state can't be read, the list is no whole number of commands, or answers is shorter
+ * than the list. */
 uint64_t psic_run(uint8_t *state, size_t state_len, const uint8_t *list, size_t list_len, uint8_t *answers, size_t answers_len);
 
-/* The position plus one of the first highest candidate of a lent list of at most 128 records, 0 for none. */
+/* The first highest candidate of a lent list of at most 128 records, whatever they hold; a longer one is refused by 2. */
 psic_found psic_highest_in(const psic_source *list, size_t list_len);
 
-/* The claim of one lent core record. */
+/* The claim of one lent core record: 1 if it is filled and its id isn't 1 to 128, or its box priority isn't 1 to 511 or isn't above the
+ * configured one, or it is dirty; 7 if it is empty. */
 psic_claimed psic_claim_in_place(psic_core *core);
+
+/* ---- a controller, by commands with types ---- */
+
+/* The parts of a packed answer. */
+static inline psic_answer psic_unpacked(uint64_t packed) {
+    psic_answer answer;
+    answer.number = (psic_number)(packed & 0xff);
+    answer.id = psic_source_id_of((uint16_t)(packed >> 8));
+    answer.cycles = (uint16_t)(packed >> 24);
+    return answer;
+}
+
+/* A fresh controller: "every source masked, configured priority 1, nothing pending; every core at 0, boxes empty". */
+static inline psic_answer psic_init(psic_state *state, uint16_t sources, uint16_t cores) {
+    return psic_unpacked(psic_make(sources, cores, state->bytes, sizeof state->bytes));
+}
+
+static inline psic_answer psic_set_source_priority(psic_state *state, psic_source_id source, uint16_t priority) {
+    return psic_unpacked(psic_execute(state->bytes, sizeof state->bytes, PSIC_SET_SOURCE_PRIORITY, source.number, priority));
+}
+
+static inline psic_answer psic_mask(psic_state *state, psic_source_id source) {
+    return psic_unpacked(psic_execute(state->bytes, sizeof state->bytes, PSIC_MASK, source.number, 0));
+}
+
+static inline psic_answer psic_unmask(psic_state *state, psic_source_id source) {
+    return psic_unpacked(psic_execute(state->bytes, sizeof state->bytes, PSIC_UNMASK, source.number, 0));
+}
+
+static inline psic_answer psic_set_core_priority(psic_state *state, psic_core_id core, uint16_t priority) {
+    return psic_unpacked(psic_execute(state->bytes, sizeof state->bytes, PSIC_SET_CORE_PRIORITY, core.number, priority));
+}
+
+static inline psic_answer psic_trigger(psic_state *state, psic_source_id source) {
+    return psic_unpacked(psic_execute(state->bytes, sizeof state->bytes, PSIC_TRIGGER, source.number, 0));
+}
+
+/* The one command that answers an id. */
+static inline psic_answer psic_claim(psic_state *state, psic_core_id core) {
+    return psic_unpacked(psic_execute(state->bytes, sizeof state->bytes, PSIC_CLAIM, core.number, 0));
+}
+
+static inline psic_answer psic_redeliver(psic_state *state, psic_source_id source) {
+    return psic_unpacked(psic_execute(state->bytes, sizeof state->bytes, PSIC_REDELIVER, source.number, 0));
+}
+
+static inline psic_answer psic_complete(psic_state *state, psic_source_id source) {
+    return psic_unpacked(psic_execute(state->bytes, sizeof state->bytes, PSIC_COMPLETE, source.number, 0));
+}
+
+/* ---- what a state holds: read from its bytes, which stay as they are ---- */
+
+static inline uint16_t psic_word_at(const psic_state *state, size_t at) {
+    return (uint16_t)(state->bytes[at] | state->bytes[at + 1] << 8);
+}
+
+static inline bool psic_flag_at(const psic_state *state, size_t at) {
+    return state->bytes[at] == 1;
+}
+
+/* How many sources there are: n. */
+static inline uint16_t psic_sources(const psic_state *state) {
+    return psic_word_at(state, 0);
+}
+
+/* How many cores there are: m. */
+static inline uint16_t psic_cores(const psic_state *state) {
+    return psic_word_at(state, 2);
+}
+
+/* The top priority, 2^P - 1 with P = floor(log2 n) + 2. */
+static inline uint16_t psic_top_priority(const psic_state *state) {
+    uint32_t levels = 4;
+    for (uint16_t n = psic_sources(state); n > 1; n >>= 1) {
+        levels *= 2;
+    }
+    return (uint16_t)(levels - 1);
+}
+
+/* The record of a source. An id that is 0 or above n has a record of zeros, which no source of a sound state has. */
+static inline psic_source psic_source_record(const psic_state *state, psic_source_id source) {
+    psic_source record = {0, false, false, false, 0};
+    if (source.number != 0 && source.number <= psic_sources(state) && source.number <= PSIC_MAX_SOURCES) {
+        size_t at = 4 + 7 * ((size_t)source.number - 1);
+        record.configured = psic_word_at(state, at);
+        record.masked = psic_flag_at(state, at + 2);
+        record.pending = psic_flag_at(state, at + 3);
+        record.delivered = psic_flag_at(state, at + 4);
+        record.priority = psic_word_at(state, at + 5);
+    }
+    return record;
+}
+
+/* The record of a core. A core that is m or above has that of a fresh one. */
+static inline psic_core psic_core_record(const psic_state *state, psic_core_id core) {
+    psic_core record = {0, {false, false, {0}, 0}};
+    if (core.number < psic_cores(state) && core.number < PSIC_MAX_CORES) {
+        size_t at = 900 + 8 * (size_t)core.number;
+        record.configured = psic_word_at(state, at);
+        record.message.filled = psic_flag_at(state, at + 2);
+        record.message.dirty = psic_flag_at(state, at + 3);
+        record.message.source = psic_source_id_of(psic_word_at(state, at + 4));
+        record.message.priority = psic_word_at(state, at + 6);
+    }
+    return record;
+}
+
+/* A core's box. */
+static inline psic_message_box psic_box(const psic_state *state, psic_core_id core) {
+    return psic_core_record(state, core).message;
+}
+
+/* A core's current priority: "the box's if filled, else the configured one". */
+static inline uint16_t psic_current_priority(const psic_state *state, psic_core_id core) {
+    psic_core record = psic_core_record(state, core);
+    return record.message.filled ? record.message.priority : record.configured;
+}
+
+/* "Owner of a pending request: the source while not delivered; the box that holds it; the software if it is delivered and lies in no
+ * box". */
+typedef enum {
+    PSIC_OWNER_NONE = 0, /* nothing is pending, or there is no such source */
+    PSIC_OWNER_SOURCE = 1,
+    PSIC_OWNER_BOX = 2,
+    PSIC_OWNER_SOFTWARE = 3
+} psic_owner_kind;
+
+typedef struct {
+    psic_owner_kind kind;
+    psic_core_id core; /* of PSIC_OWNER_BOX, the core whose box it is; else 0 */
+} psic_owner;
+
+static inline psic_owner psic_owner_of(const psic_state *state, psic_source_id source) {
+    psic_owner owner = {PSIC_OWNER_NONE, {0}};
+    psic_source record = psic_source_record(state, source);
+    if (!record.pending) {
+        return owner;
+    }
+    owner.kind = record.delivered ? PSIC_OWNER_SOFTWARE : PSIC_OWNER_SOURCE;
+    for (uint16_t k = 0; record.delivered && k < psic_cores(state) && k < PSIC_MAX_CORES; k++) {
+        psic_message_box box = psic_box(state, psic_core_id_of(k));
+        if (box.filled && box.source.number == source.number) {
+            owner.kind = PSIC_OWNER_BOX;
+            owner.core = psic_core_id_of(k);
+            return owner;
+        }
+    }
+    return owner;
+}
+
+#ifdef __cplusplus
+}
+#endif
 
 #endif

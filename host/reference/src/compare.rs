@@ -12,9 +12,20 @@ use crate::well_formed::violated;
 /// A call that both models were put to.
 #[derive(Clone, Debug, PartialEq, Eq)]
 pub enum Call {
-    Make { n: u16, m: u16 },
+    /// A making of a fresh controller.
+    Make {
+        /// The number of sources.
+        n: u16,
+        /// The number of cores.
+        m: u16,
+    },
+    /// One command.
     Execute(Command),
+    /// A list of commands in one call.
+    Run(Vec<Command>),
+    /// The search over a lent list.
     HighestIn(Vec<Source>),
+    /// The claim of a lent record.
     ClaimInPlace(Core),
 }
 
@@ -27,11 +38,15 @@ pub struct Difference {
     pub part: String,
     /// The call's position in that part; of a broken state, the state's position.
     pub index: usize,
+    /// The call that was answered differently.
     pub call: Call,
-    /// Each model's name and answer. A call that counts no cycles answers 0 of them.
+    /// One model's name and answer. A call that counts no cycles answers 0 of them.
     pub left: (String, Answer),
+    /// The other model's name and answer.
     pub right: (String, Answer),
-    /// The fields of the state or record handed back that differ, with both values.
+    /// Whether the states or records handed back are equal, as wholes.
+    pub same_state: bool,
+    /// The fields in which they differ, with both values. For the reader alone: what isn't listed here differs all the same.
     pub fields: Vec<String>,
 }
 
@@ -52,26 +67,63 @@ impl fmt::Display for Difference {
         for field in &self.fields {
             writeln!(f, "  {field}")?;
         }
+        if !self.same_state && self.fields.is_empty() {
+            writeln!(f, "  the states differ in a field that isn't listed")?;
+        }
         Ok(())
     }
 }
 
 /// Two models and the seed of the workload they are put to.
 pub struct Comparison<'a, L: Model, R: Model> {
+    /// One model.
     pub left: &'a L,
+    /// The other.
     pub right: &'a R,
+    /// The seed of the workload.
     pub seed: u64,
 }
 
 /// Where a call stands in the workload.
+#[derive(Clone, Copy)]
 struct Place<'a> {
     part: &'a str,
     index: usize,
 }
 
+/// What was handed back by both models: whether it is equal as a whole, and the fields that differ.
+struct HandedBack {
+    equal: bool,
+    fields: Vec<String>,
+}
+
+impl HandedBack {
+    /// Nothing is handed back but the answer.
+    const NOTHING: HandedBack = HandedBack {
+        equal: true,
+        fields: Vec::new(),
+    };
+
+    fn states(left: &Controller, right: &Controller) -> HandedBack {
+        HandedBack {
+            equal: left == right,
+            fields: differing_fields(left, right),
+        }
+    }
+
+    fn cores(left: &Core, right: &Core) -> HandedBack {
+        let mut fields = Fields::default();
+        fields.core("core", left, right);
+        HandedBack {
+            equal: left == right,
+            fields: fields.differing,
+        }
+    }
+}
+
 impl<L: Model, R: Model> Comparison<'_, L, R> {
     /// Runs the whole workload that the seed determines: makings of any sizes, a history of this
-    /// length, broken states made from its end, and lent records.
+    /// length by single commands and as one list, broken states made from its end, and lent records.
     pub fn round(&self, length: usize) -> Option<Difference> {
         let mut random = Random::new(self.seed);
         let (n, m) = generate::sizes(&mut random);
@@ -79,6 +131,7 @@ impl<L: Model, R: Model> Comparison<'_, L, R> {
         let history = generate::history(random.bits(), n, m, length, mix);
         self.makings(&mut random)
             .or_else(|| self.history(&history))
+            .or_else(|| self.list(&history))
             .or_else(|| self.broken_states(&mut random, &generate::final_state(&history)))
             .or_else(|| self.borrowed_records(&mut random))
     }
@@ -112,17 +165,27 @@ impl<L: Model, R: Model> Comparison<'_, L, R> {
         })
     }
 
-    /// Puts one command of each kind to broken states made from a sound one.
+    /// Runs a history from a fresh controller as one list.
+    pub fn list(&self, history: &History) -> Option<Difference> {
+        let History { n, m, .. } = *history;
+        let part = &format!("list at n = {n}, m = {m}");
+        let fresh = Controller::reset(n, m);
+        self.run(Place { part, index: 0 }, &fresh, &history.commands)
+    }
+
+    /// Puts one command of each kind, and all of them as a list, to broken states made from a sound one.
     pub fn broken_states(&self, random: &mut Random, sound: &Controller) -> Option<Difference> {
         let mut states = damage::broken_states(random, sound).into_iter().enumerate();
         states.find_map(|(index, state)| {
             let part = &format!("state that violates {:?}", violated(&state));
-            let mut commands = generate::one_of_each(random, state.n, state.m).into_iter();
-            commands.find_map(|command| {
+            let place = Place { part, index };
+            let commands = generate::one_of_each(random, state.n, state.m);
+            let single = commands.iter().find_map(|&command| {
                 let mut left = self.left.load(&state);
                 let mut right = self.right.load(&state);
-                self.execute(Place { part, index }, &mut left, &mut right, command)
-            })
+                self.execute(place, &mut left, &mut right, command)
+            });
+            single.or_else(|| self.run(place, &state, &commands))
         })
     }
 
@@ -137,15 +200,21 @@ impl<L: Model, R: Model> Comparison<'_, L, R> {
         })
     }
 
+    /// A refused making hands back a state that depends on the form of the call, so that it isn't compared.
     fn make(&self, place: Place, n: u16, m: u16) -> Option<Difference> {
         let (left_number, left) = self.left.make(n, m);
         let (right_number, right) = self.right.make(n, m);
+        let handed_back = if left_number == 0 && right_number == 0 {
+            HandedBack::states(&self.left.read(&left), &self.right.read(&right))
+        } else {
+            HandedBack::NOTHING
+        };
         self.difference(
             place,
             || Call::Make { n, m },
             without_cycles((left_number, 0)),
             without_cycles((right_number, 0)),
-            differing_fields(&self.left.read(&left), &self.right.read(&right)),
+            handed_back,
         )
     }
 
@@ -163,7 +232,28 @@ impl<L: Model, R: Model> Comparison<'_, L, R> {
             || Call::Execute(command),
             left_answer,
             right_answer,
-            differing_fields(&self.left.read(left), &self.right.read(right)),
+            HandedBack::states(&self.left.read(left), &self.right.read(right)),
+        )
+    }
+
+    /// A list from this state, in one call each. A difference shows the first answers that differ.
+    fn run(&self, place: Place, from: &Controller, commands: &[Command]) -> Option<Difference> {
+        let (mut left, mut right) = (self.left.load(from), self.right.load(from));
+        let left_answers = self.left.run(&mut left, commands);
+        let right_answers = self.right.run(&mut right, commands);
+        assert_eq!(left_answers.len(), commands.len(), "an answer for each");
+        assert_eq!(right_answers.len(), commands.len(), "an answer for each");
+        let mut pairs = left_answers.into_iter().zip(right_answers);
+        let last = without_cycles((0, 0));
+        let (left_answer, right_answer) = pairs
+            .find(|(left, right)| left != right)
+            .unwrap_or((last, last));
+        self.difference(
+            place,
+            || Call::Run(commands.to_vec()),
+            left_answer,
+            right_answer,
+            HandedBack::states(&self.left.read(&left), &self.right.read(&right)),
         )
     }
 
@@ -173,7 +263,7 @@ impl<L: Model, R: Model> Comparison<'_, L, R> {
             || Call::HighestIn(sources.to_vec()),
             without_cycles(self.left.highest_in(sources)),
             without_cycles(self.right.highest_in(sources)),
-            Vec::new(),
+            HandedBack::NOTHING,
         )
     }
 
@@ -181,14 +271,12 @@ impl<L: Model, R: Model> Comparison<'_, L, R> {
         let (mut left, mut right) = (lent, lent);
         let left_answer = self.left.claim_in_place(&mut left);
         let right_answer = self.right.claim_in_place(&mut right);
-        let mut fields = Fields::default();
-        fields.core("core", &left, &right);
         self.difference(
             place,
             || Call::ClaimInPlace(lent),
             without_cycles(left_answer),
             without_cycles(right_answer),
-            fields.differing,
+            HandedBack::cores(&left, &right),
         )
     }
 
@@ -198,9 +286,9 @@ impl<L: Model, R: Model> Comparison<'_, L, R> {
         call: impl FnOnce() -> Call,
         left: Answer,
         right: Answer,
-        fields: Vec<String>,
+        handed_back: HandedBack,
     ) -> Option<Difference> {
-        if left == right && fields.is_empty() {
+        if left == right && handed_back.equal {
             return None;
         }
         Some(Difference {
@@ -210,7 +298,8 @@ impl<L: Model, R: Model> Comparison<'_, L, R> {
             call: call(),
             left: (self.left.name(), left),
             right: (self.right.name(), right),
-            fields,
+            same_state: handed_back.equal,
+            fields: handed_back.fields,
         })
     }
 }

@@ -5,7 +5,9 @@
 
 use std::cmp::Reverse;
 
+use crate::generate::History;
 use crate::ledger::Ledger;
+use crate::model::Model;
 use crate::records::{Answer, Controller, Core};
 
 /// A request that a placement may give to a core.
@@ -13,6 +15,41 @@ use crate::records::{Answer, Controller, Core};
 struct Placeable {
     id: u16,
     priority: u16,
+}
+
+/// Where demand 3 doesn't hold, and why.
+#[derive(Clone, Debug, PartialEq, Eq)]
+pub struct Breach {
+    /// The position of the command after which it doesn't hold.
+    pub index: usize,
+    /// What doesn't hold.
+    pub reason: String,
+}
+
+/// Runs a history through a model from a fresh controller and checks demand 3 after every command, with every placement tried if
+/// asked for. Gives the first breach.
+pub fn first_breach<M: Model>(
+    model: &M,
+    history: &History,
+    every_placement: bool,
+) -> Option<Breach> {
+    let (_, mut state) = model.make(history.n, history.m);
+    let mut ledger = Ledger::reset(history.n, history.m);
+    for (index, &command) in history.commands.iter().enumerate() {
+        let answer = model.execute(&mut state, command);
+        let after = model.read(&state);
+        let checked = ledger
+            .enter(command, answer.number, answer.id)
+            .and_then(|()| check(&ledger, &after, answer))
+            .and_then(|()| match every_placement {
+                true => check_every_placement(&ledger, &after),
+                false => Ok(()),
+            });
+        if let Err(reason) = checked {
+            return Some(Breach { index, reason });
+        }
+    }
+    None
 }
 
 /// Checks demand 3 without trying placements, for any size. The ledger has the command entered.
@@ -71,9 +108,9 @@ fn placeable(ledger: &Ledger, cores: &[Core]) -> Vec<Placeable> {
         .collect()
 }
 
-/// The boxes are a placement: a filled box has the id and priority of the request it places, no
-/// request is placed twice, a core given one has that request's priority as its current one, any
-/// other its configured one.
+/// The boxes are a placement: a filled box has the id and priority of the request it places, which
+/// is above its core's configured priority; no request is placed twice; a core given one has that
+/// request's priority as its current one, any other its configured one.
 fn boxes_are_a_placement(
     ledger: &Ledger,
     cores: &[Core],
@@ -94,6 +131,12 @@ fn boxes_are_a_placement(
                 return Err(format!("core {number} holds {request:?} a second time"));
             }
             placed.push(request);
+            let configured = ledger.cores[number];
+            if request.priority <= configured {
+                return Err(format!(
+                    "core {number} holds {request:?}, not above its {configured}"
+                ));
+            }
             request.priority
         } else {
             ledger.cores[number]

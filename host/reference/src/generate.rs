@@ -9,9 +9,13 @@ use crate::reference::{self, top_priority};
 /// A list of commands put to a fresh controller.
 #[derive(Clone, Debug, PartialEq, Eq)]
 pub struct History {
+    /// The seed that it was made from.
     pub seed: u64,
+    /// The number of sources.
     pub n: u16,
+    /// The number of cores.
     pub m: u16,
+    /// The commands, in order.
     pub commands: Vec<Command>,
 }
 

@@ -26,7 +26,9 @@ pub struct SourceEntry {
 /// A request, open or claimed, with its own priority.
 #[derive(Clone, Copy, Debug, PartialEq, Eq, Hash)]
 pub struct Request {
+    /// The request's own priority.
     pub priority: u16,
+    /// Claimed, not open.
     pub claimed: bool,
 }
 

@@ -5,16 +5,23 @@ use crate::reference;
 
 /// A model of the controller. It holds its state in a form of its own.
 pub trait Model {
+    /// A state in the model's own form.
     type State;
 
     /// The model's name in reports.
     fn name(&self) -> String;
 
-    /// Makes a fresh controller and answers the number.
+    /// Makes a fresh controller and answers the number. With a number other than 0 the state is not looked at.
     fn make(&self, n: u16, m: u16) -> (u8, Self::State);
 
     /// Runs one command on a state, sound or not.
     fn execute(&self, state: &mut Self::State, command: Command) -> Answer;
+
+    /// Runs a list of commands, refused ones included: one after the other, unless the model has a call for it.
+    fn run(&self, state: &mut Self::State, commands: &[Command]) -> Vec<Answer> {
+        let execute = |&command: &Command| self.execute(state, command);
+        commands.iter().map(execute).collect()
+    }
 
     /// Takes over a state as it is, sound or not.
     fn load(&self, controller: &Controller) -> Self::State;

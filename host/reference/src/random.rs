@@ -28,6 +28,7 @@ pub struct Random {
 }
 
 impl Random {
+    /// The sequence of this seed.
     pub fn new(seed: u64) -> Random {
         Random { state: seed }
     }
@@ -57,6 +58,7 @@ impl Random {
         self.bits() as u16
     }
 
+    /// True half of the time.
     pub fn flag(&mut self) -> bool {
         self.one_in(2)
     }

@@ -25,8 +25,11 @@ pub struct CoreNumber(pub u16);
 pub struct Source {
     /// The configured priority.
     pub configured: u16,
+    /// Its request isn't delivered while this is on.
     pub masked: bool,
+    /// It has a request.
     pub pending: bool,
+    /// The request lies in a box or is claimed.
     pub delivered: bool,
     /// The request's priority, copied from the configured one at trigger.
     pub request: u16,
@@ -56,10 +59,13 @@ impl Source {
 /// A core's box.
 #[derive(Clone, Copy, Debug, PartialEq, Eq, Hash)]
 pub struct MessageBox {
+    /// A request lies in it.
     pub filled: bool,
+    /// The request is to be retracted.
     pub dirty: bool,
     /// The source id.
     pub id: u16,
+    /// The request's priority.
     pub priority: u16,
 }
 
@@ -188,13 +194,21 @@ impl Controller {
 /// The eight commands. Arguments may be any numbers.
 #[derive(Clone, Copy, Debug, PartialEq, Eq, Hash)]
 pub enum Command {
+    /// Set source priority (id, p).
     SetSourcePriority(SourceId, u16),
+    /// Mask (id).
     Mask(SourceId),
+    /// Unmask (id).
     Unmask(SourceId),
+    /// Set core priority (core, p).
     SetCorePriority(CoreNumber, u16),
+    /// Trigger (id).
     Trigger(SourceId),
+    /// Claim (core).
     Claim(CoreNumber),
+    /// Redeliver (id).
     Redeliver(SourceId),
+    /// Complete (id).
     Complete(SourceId),
 }
 
@@ -242,6 +256,7 @@ pub enum Refusal {
 }
 
 impl Refusal {
+    /// The number itself.
     pub fn number(self) -> u8 {
         self as u8
     }

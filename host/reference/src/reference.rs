@@ -134,7 +134,9 @@ fn claim(core: &mut Core) -> u16 {
 /// One cycle of settling.
 #[derive(Clone, Copy, Debug, PartialEq, Eq)]
 pub enum Cycle {
+    /// A dirty box is emptied.
     Retraction,
+    /// A box takes a candidate.
     Delivery,
 }
 

@@ -9,19 +9,33 @@ use crate::reference::top_priority;
 /// The clauses of a sound state, in the order in which they are tested.
 #[derive(Clone, Copy, Debug, PartialEq, Eq)]
 pub enum Clause {
+    /// Sizes in range.
     SizesInRange,
+    /// Configured source priorities 1 to top.
     ConfiguredSourcePriorities,
+    /// Pending request priorities 1 to top.
     PendingRequestPriorities,
+    /// Core priorities 0 to top.
     CorePriorities,
+    /// Not pending: delivered is off and request priority is 0.
     NotPendingIsBlank,
+    /// An empty box has id 0, priority 0 and isn't dirty.
     EmptyBoxIsBlank,
+    /// Records past n or m are fresh ones.
     RecordsPastSizesAreReset,
+    /// Every filled box names a source that is pending and delivered.
     BoxNamesDelivered,
+    /// Every filled box has its request's priority.
     BoxHasRequestPriority,
+    /// Every filled box is strictly above its core's configured priority.
     BoxAboveConfigured,
+    /// No source in two boxes.
     NoSourceInTwoBoxes,
+    /// No box dirty.
     NoBoxDirty,
+    /// No candidate above the least current priority.
     NoCandidateAboveLeast,
+    /// The configured priority under a filled box isn't above any core's current priority.
     ConfiguredUnderBoxNotAbove,
 }
 
@@ -44,6 +58,7 @@ impl Clause {
         Clause::ConfiguredUnderBoxNotAbove,
     ];
 
+    /// Whether the clause holds of a state; every clause but the first rests on it.
     pub fn holds(self, controller: &Controller) -> bool {
         match self {
             Clause::SizesInRange => sizes_in_range(controller.n, controller.m),

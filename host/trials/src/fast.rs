@@ -28,6 +28,7 @@ struct Core {
     configured: u16,
     message: MessageBox,
 }
+/// A controller, changed in place.
 #[derive(Clone)]
 pub struct Controller {
     n: u16,
@@ -35,7 +36,9 @@ pub struct Controller {
     sources: [Source; 128],
     cores: [Core; 32],
 }
+/// A command, with an id or a core and a priority as plain numbers.
 #[derive(Clone, Copy)]
+#[allow(missing_docs)]
 pub enum Command {
     SetSourcePriority(u16, u16),
     Mask(u16),
@@ -46,6 +49,8 @@ pub enum Command {
     Redeliver(u16),
     Complete(u16),
 }
+/// What a command answers.
+#[allow(missing_docs)]
 pub struct Outcome {
     pub number: u8,
     pub id: u16,
@@ -123,6 +128,7 @@ fn least(currents: &[u16]) -> usize {
     best
 }
 impl Controller {
+    /// A fresh controller; the sizes must be in range.
     pub fn new(n: u16, m: u16) -> Self {
         Controller {
             n,
@@ -196,14 +202,13 @@ impl Controller {
         let (n, m) = (self.n as usize, self.m as usize);
         let mut cycles = 0;
         let mut currents = [0u16; 32];
-        for k in 0..m {
-            let c = &mut self.cores[k];
+        for (c, current) in self.cores[..m].iter_mut().zip(&mut currents) {
             if c.message.dirty {
                 self.sources[c.message.source as usize - 1].delivered = false;
                 c.message = EMPTY;
                 cycles += 1;
             }
-            currents[k] = c.current();
+            *current = c.current();
         }
         let mut keys = [0u32; 128];
         for (key, r) in keys.iter_mut().zip(&self.sources[..n]) {
@@ -319,6 +324,7 @@ impl Controller {
         }
         Ok((0, false))
     }
+    /// Runs one command whole.
     pub fn execute(&mut self, c: Command) -> Outcome {
         match self.apply(c) {
             Err(number) => Outcome {

@@ -1,9 +1,11 @@
 //! The proved library beside two models of its own rules.
 //!
 //! - [`library`] puts the library behind the reference's trait, so that one comparison runs both.
+//! - [`wrapper`] does the same with the typed wrapper.
 //! - [`fast`] is the model that the library's speed is compared with.
 //! - [`workload`] makes the benchmark's commands.
 
 pub mod fast;
 pub mod library;
 pub mod workload;
+pub mod wrapper;

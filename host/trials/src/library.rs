@@ -1,6 +1,6 @@
 //! The proved library as a model of the reference's trait.
 
-use psic::{ANSWER_SIZE, STATE_SIZE};
+use psic::{raw, ANSWER_SIZE, STATE_SIZE};
 use psic_reference::model::Model;
 use psic_reference::records::{Answer, Command, Controller, Core, MessageBox, Source};
 
@@ -9,7 +9,7 @@ const SOURCE_SIZE: usize = 7;
 const CORES_FROM: usize = 900;
 const CORE_SIZE: usize = 8;
 
-/// The proved library, one call a command.
+/// The proved library with its own numbers: a call a command, or a call a list.
 #[derive(Clone, Copy, Debug)]
 pub struct Library;
 
@@ -21,14 +21,19 @@ impl Model for Library {
     }
 
     fn make(&self, n: u16, m: u16) -> (u8, Vec<u8>) {
-        // A refusal leaves the buffer as it was: by value it answers this state.
-        let mut state = bytes_of(&Controller::reset(1, 1));
-        let answer = psic::make(n, m, &mut state).expect("the buffer has a state's size");
+        let mut state = vec![0; STATE_SIZE];
+        let answer = unpacked(raw::make(n, m, &mut state));
+        assert_eq!((answer.id, answer.cycles), (0, 0), "making answers no id");
         (answer.number, state)
     }
 
     fn execute(&self, state: &mut Vec<u8>, command: Command) -> Answer {
-        answer_of(psic::execute(state, encoded(command)).expect("the bytes encode a state"))
+        let (number, at, priority) = numbers(command);
+        unpacked(raw::execute(state, number, at, priority))
+    }
+
+    fn run(&self, state: &mut Vec<u8>, commands: &[Command]) -> Vec<Answer> {
+        run_list(state, commands)
     }
 
     fn load(&self, controller: &Controller) -> Vec<u8> {
@@ -41,23 +46,15 @@ impl Model for Library {
 
     fn highest_in(&self, sources: &[Source]) -> (u8, u16) {
         let list: Vec<psic::Source> = sources.iter().map(lent_source).collect();
-        let found = psic::highest_in(&list);
+        let found = raw::highest_in(&list);
         (found.number, found.position)
     }
 
     fn claim_in_place(&self, core: &mut Core) -> (u8, u16) {
         let mut lent = lent_core(core);
-        let claimed = psic::claim_in_place(&mut lent);
-        *core = Core {
-            configured: lent.configured,
-            message: MessageBox {
-                filled: lent.message.filled,
-                dirty: lent.message.dirty,
-                id: lent.message.source,
-                priority: lent.message.priority,
-            },
-        };
-        (claimed.number, claimed.id)
+        let claimed = raw::claim_in_place(&mut lent);
+        *core = core_of(&lent);
+        (claimed.number, claimed.id.0)
     }
 }
 
@@ -65,24 +62,17 @@ impl Model for Library {
 pub fn run_list(state: &mut [u8], commands: &[Command]) -> Vec<Answer> {
     let list: Vec<u8> = commands
         .iter()
-        .flat_map(|&command| encoded(command).bytes())
+        .flat_map(|&command| encoded(command))
         .collect();
     let mut answers = vec![0; ANSWER_SIZE * commands.len()];
-    let taken = psic::run(state, &list, &mut answers).expect("the list and the state are whole");
-    assert_eq!(taken, commands.len(), "every command can be read");
-    answers
-        .chunks_exact(ANSWER_SIZE)
-        .map(|bytes| {
-            answer_of(psic::Answer::from_bytes(
-                bytes.try_into().expect("five bytes"),
-            ))
-        })
-        .collect()
+    let taken = raw::run(state, &list, &mut answers);
+    assert_eq!(taken, commands.len() as u64, "every command can be read");
+    answers.chunks_exact(ANSWER_SIZE).map(answer_of).collect()
 }
 
-/// A command by its number.
-pub fn encoded(command: Command) -> psic::Command {
-    let (number, at, priority) = match command {
+/// A command's number, the id or core, and the priority.
+pub fn numbers(command: Command) -> (u16, u16, u16) {
+    match command {
         Command::SetSourcePriority(id, p) => (0, id.0, p),
         Command::Mask(id) => (1, id.0, 0),
         Command::Unmask(id) => (2, id.0, 0),
@@ -91,12 +81,14 @@ pub fn encoded(command: Command) -> psic::Command {
         Command::Claim(core) => (5, core.0, 0),
         Command::Redeliver(id) => (6, id.0, 0),
         Command::Complete(id) => (7, id.0, 0),
-    };
-    psic::Command {
-        number,
-        at,
-        priority,
     }
+}
+
+/// A command's bytes, as docs/ENCODING.md lays them out.
+pub fn encoded(command: Command) -> [u8; 5] {
+    let (number, at, priority) = numbers(command);
+    let ([a, b], [c, d]) = (at.to_le_bytes(), priority.to_le_bytes());
+    [number as u8, a, b, c, d]
 }
 
 /// A state's bytes, as docs/ENCODING.md lays them out.
@@ -146,15 +138,24 @@ pub fn controller_of(bytes: &[u8]) -> Controller {
     controller
 }
 
-fn answer_of(answer: psic::Answer) -> Answer {
+fn unpacked(packed: u64) -> Answer {
     Answer {
-        number: answer.number,
-        id: answer.id,
-        cycles: answer.cycles,
+        number: packed as u8,
+        id: (packed >> 8) as u16,
+        cycles: (packed >> 24) as u16,
     }
 }
 
-fn lent_source(source: &Source) -> psic::Source {
+fn answer_of(bytes: &[u8]) -> Answer {
+    Answer {
+        number: bytes[0],
+        id: u16::from_le_bytes([bytes[1], bytes[2]]),
+        cycles: u16::from_le_bytes([bytes[3], bytes[4]]),
+    }
+}
+
+/// A source record in the wrapper's form.
+pub fn lent_source(source: &Source) -> psic::Source {
     psic::Source {
         configured: source.configured,
         masked: source.masked,
@@ -164,13 +165,27 @@ fn lent_source(source: &Source) -> psic::Source {
     }
 }
 
-fn lent_core(core: &Core) -> psic::Core {
+/// A core record in the wrapper's form.
+pub fn lent_core(core: &Core) -> psic::Core {
     psic::Core {
         configured: core.configured,
         message: psic::MessageBox {
             filled: core.message.filled,
             dirty: core.message.dirty,
-            source: core.message.id,
+            source: psic::SourceId(core.message.id),
+            priority: core.message.priority,
+        },
+    }
+}
+
+/// A core record of the wrapper in the reference's form.
+pub fn core_of(core: &psic::Core) -> Core {
+    Core {
+        configured: core.configured,
+        message: MessageBox {
+            filled: core.message.filled,
+            dirty: core.message.dirty,
+            id: core.message.source.0,
             priority: core.message.priority,
         },
     }

@@ -1,24 +1,73 @@
-//! The proved library does what the independent model does, call by call and in whole lists.
+//! The proved library, and the typed wrapper over it, do what the independent model does: call by call, in whole lists, from sound and
+//! broken states, and on lent records.
 
-use psic::{Command as Encoded, Unreadable, ANSWER_SIZE, COMMAND_SIZE, STATE_SIZE};
-use psic_reference::compare::{differing_fields, Comparison};
+mod slips;
+
+use psic::bytes;
+use psic::{raw, Owner, Refusal, ANSWER_SIZE, COMMAND_SIZE, STATE_SIZE};
+use psic_reference::compare::{Comparison, Difference};
+use psic_reference::damage;
+use psic_reference::demand3::first_breach;
 use psic_reference::generate::{self, Mix};
-use psic_reference::model::Reference;
-use psic_reference::random::run_seeds;
-use psic_reference::records::Controller;
+use psic_reference::model::{Model, Reference};
+use psic_reference::random::{run_seed, run_seeds, Random};
+use psic_reference::records::{Command, Controller, SourceId};
 use psic_reference::reference;
-use psic_trials::library::{bytes_of, controller_of, run_list, Library};
+use psic_reference::well_formed::well_formed;
+use psic_trials::library::{bytes_of, controller_of, encoded, run_list, Library};
+use psic_trials::wrapper::{typed, Wrapper};
+
+use crate::slips::{with_slip, Slip};
+
+/// The first difference from the reference model within so many rounds.
+fn first_difference<M: Model>(model: &M, rounds: usize, length: usize) -> Option<Difference> {
+    run_seeds(rounds).into_iter().find_map(|seed| {
+        let comparison = Comparison {
+            left: &Reference,
+            right: model,
+            seed,
+        };
+        comparison.round(length)
+    })
+}
 
 #[test]
 fn every_round_agrees_with_the_reference() {
-    for seed in run_seeds(400) {
-        let comparison = Comparison {
-            left: &Reference,
-            right: &Library,
-            seed,
-        };
-        if let Some(difference) = comparison.round(500) {
-            panic!("{difference}");
+    if let Some(difference) = first_difference(&Library, 400, 500) {
+        panic!("{difference}");
+    }
+}
+
+#[test]
+fn the_typed_wrapper_agrees_with_the_reference() {
+    if let Some(difference) = first_difference(&Wrapper, 100, 500) {
+        panic!("{difference}");
+    }
+}
+
+/// What is compared is the library's own answer, of each call, by both ways to it.
+#[test]
+fn every_slip_of_the_library_is_found() {
+    for slip in Slip::ALL {
+        let library = with_slip(slip, || first_difference(&Library, 4, 100));
+        assert!(library.is_some(), "{slip:?}");
+        let wrapper = with_slip(slip, || first_difference(&Wrapper, 4, 100));
+        assert!(wrapper.is_some(), "{slip:?}, by the wrapper");
+    }
+}
+
+/// Demand 3, on the states that the library itself hands back.
+#[test]
+fn the_library_keeps_demand_3() {
+    let mut random = Random::new(run_seed());
+    for _ in 0..20 {
+        let history = generate::history(random.bits(), 3, 2, 300, Mix::Busy);
+        assert_eq!(first_breach(&Library, &history, true), None);
+    }
+    for (n, m) in [(1, 1), (4, 3), (32, 2), (100, 7), (128, 4), (128, 32)] {
+        for mix in [Mix::Even, Mix::Busy] {
+            let history = generate::history(random.bits(), n, m, 2000, mix);
+            assert_eq!(first_breach(&Library, &history, false), None, "({n}, {m})");
         }
     }
 }
@@ -41,17 +90,14 @@ fn whole_lists_agree_with_the_reference() {
     ]) {
         let history = generate::history(seed, n, m, 2000, Mix::Busy);
         let mut state = vec![0; STATE_SIZE];
-        psic::make(n, m, &mut state).expect("sizes in range");
+        bytes::make(n, m, &mut state).expect("sizes in range");
         let answers = run_list(&mut state, &history.commands);
         let mut expected = Controller::reset(n, m);
         for (index, (&command, answer)) in history.commands.iter().zip(&answers).enumerate() {
             let right = reference::execute(&mut expected, command);
             assert_eq!(*answer, right, "seed {seed}, index {index}: {command:?}");
         }
-        assert_eq!(
-            differing_fields(&controller_of(&state), &expected),
-            Vec::<String>::new()
-        );
+        assert_eq!(controller_of(&state), expected, "seed {seed}");
     }
 }
 
@@ -69,7 +115,7 @@ fn a_state_is_read_back_from_its_bytes() {
 fn the_documented_example_holds() {
     let document = include_str!("../../../docs/ENCODING.md");
     let mut state = vec![0xff; STATE_SIZE];
-    psic::make(2, 1, &mut state).expect("sizes in range");
+    bytes::make(2, 1, &mut state).expect("sizes in range");
     assert_eq!(hex(&state[..4]), "02 00 01 00");
     assert!(state[4..900]
         .chunks(7)
@@ -77,7 +123,7 @@ fn the_documented_example_holds() {
     assert!(state[900..].iter().all(|&byte| byte == 0));
     let mut answers = [0; 2 * ANSWER_SIZE];
     let list = [2, 1, 0, 0, 0, 4, 1, 0, 0, 0];
-    assert_eq!(psic::run(&mut state, &list, &mut answers), Ok(2));
+    assert_eq!(bytes::run(&mut state, &list, &mut answers), Ok(2));
     assert_eq!(hex(&answers[ANSWER_SIZE..]), "00 00 00 01 00");
     for text in [
         "02 00 01 00".to_string(),
@@ -85,77 +131,101 @@ fn the_documented_example_holds() {
         hex(&state[4..11]),
         hex(&state[900..908]),
         hex(&answers[ANSWER_SIZE..]),
-        hex(&Encoded {
-            number: 4,
-            at: 4,
-            priority: 0,
-        }
-        .bytes()),
+        hex(&encoded(Command::Trigger(SourceId(4)))),
     ] {
         assert!(document.contains(&text), "docs/ENCODING.md lacks {text}");
     }
 }
 
+/// The offsets of all flags: three of each source, two of each core.
+fn flags() -> Vec<usize> {
+    let sources = (0..128).flat_map(|i| [2, 3, 4].map(|field| 4 + 7 * i + field));
+    let cores = (0..32).flat_map(|k| [2, 3].map(|field| 900 + 8 * k + field));
+    sources.chain(cores).collect()
+}
+
+/// Every call refuses the buffer by 255, and it stays as it was.
+fn assert_unreadable(buffer: &[u8]) {
+    let mut state = buffer.to_vec();
+    assert_eq!(raw::execute(&mut state, 4, 1, 0), 255);
+    let list = encoded(Command::Trigger(SourceId(1)));
+    let mut answers = [9; ANSWER_SIZE];
+    assert_eq!(raw::run(&mut state, &list, &mut answers), u64::MAX);
+    assert_eq!(raw::run(&mut state, &[], &mut []), u64::MAX);
+    assert_eq!(answers, [9; ANSWER_SIZE]);
+    assert_eq!(state, buffer);
+    let read = psic::Controller::from_bytes(buffer);
+    assert_eq!(read, Err(Refusal::Unreadable));
+}
+
 #[test]
 fn short_buffers_and_unreadable_bytes_are_refused_and_unchanged() {
-    let mut state = vec![0; STATE_SIZE];
-    psic::make(3, 2, &mut state).expect("sizes in range");
-    let trigger = Encoded {
-        number: 4,
-        at: 1,
-        priority: 0,
-    };
-    for length in [0, 1, STATE_SIZE - 1, STATE_SIZE + 1] {
-        let mut buffer = vec![7; length];
-        assert_eq!(psic::make(3, 2, &mut buffer), Err(Unreadable));
-        assert_eq!(psic::execute(&mut buffer, trigger), Err(Unreadable));
-        assert!(buffer.iter().all(|&byte| byte == 7));
+    let fresh = bytes_of(&Controller::reset(3, 2));
+    for length in [0, 1, STATE_SIZE - 1, STATE_SIZE + 1, 2 * STATE_SIZE] {
+        let mut buffer = fresh.repeat(2);
+        buffer.truncate(length);
+        assert_unreadable(&buffer);
+        let given = buffer.clone();
+        assert_eq!(raw::make(3, 2, &mut buffer), 255);
+        assert_eq!(buffer, given);
     }
-    for flag in [6, 7, 8, 902, 903] {
-        let mut broken = state.clone();
-        broken[flag] = 2;
-        let given = broken.clone();
-        assert_eq!(psic::execute(&mut broken, trigger), Err(Unreadable));
-        assert_eq!(broken, given);
+    for flag in flags() {
+        for wrong in [2, 3, 127, 128, 254, 255] {
+            let mut buffer = fresh.clone();
+            buffer[flag] = wrong;
+            assert_unreadable(&buffer);
+        }
     }
-    let given = state.clone();
-    let eighth = Encoded {
-        number: 8,
-        at: 1,
-        priority: 0,
-    };
-    assert_eq!(psic::execute(&mut state, eighth), Err(Unreadable));
-    let list = trigger.bytes().repeat(3);
-    let mut answers = vec![9; 3 * ANSWER_SIZE - 1];
-    assert_eq!(psic::run(&mut state, &list, &mut answers), Err(Unreadable));
-    assert_eq!(
-        psic::run(&mut state, &list[..COMMAND_SIZE + 1], &mut answers),
-        Err(Unreadable)
-    );
+}
+
+#[test]
+fn a_list_that_does_not_fit_is_refused_and_unchanged() {
+    let given = bytes_of(&Controller::reset(3, 2));
+    let mut state = given.clone();
+    let list = encoded(Command::Trigger(SourceId(1))).repeat(3);
+    let mut answers = vec![9; 3 * ANSWER_SIZE];
+    let short = &mut answers[..3 * ANSWER_SIZE - 1];
+    assert_eq!(raw::run(&mut state, &list, short), u64::MAX);
+    for cut in [1, COMMAND_SIZE - 1, COMMAND_SIZE + 1] {
+        assert_eq!(raw::run(&mut state, &list[..cut], &mut answers), u64::MAX);
+    }
     assert_eq!(state, given);
     assert!(answers.iter().all(|&byte| byte == 9));
 }
 
 #[test]
-fn a_refused_make_leaves_the_buffer_as_it_was() {
-    let mut state = vec![0; STATE_SIZE];
-    psic::make(3, 2, &mut state).expect("the buffer has a state's size");
-    let given = state.clone();
-    for (n, m) in [(0, 1), (1, 0), (129, 1), (1, 33), (0, 0)] {
-        let answer = psic::make(n, m, &mut state).expect("the buffer has a state's size");
-        assert_eq!((answer.number, answer.id, answer.cycles), (2, 0, 0));
+fn a_number_above_7_is_no_command() {
+    let given = bytes_of(&Controller::reset(3, 2));
+    let mut state = given.clone();
+    for number in [8, 9, 255, 256, 260, u16::MAX] {
+        assert_eq!(raw::execute(&mut state, number, 1, 0), 255);
         assert_eq!(state, given);
     }
 }
 
 #[test]
+fn a_refused_make_leaves_the_buffer_as_it_was() {
+    for given in [
+        vec![0; STATE_SIZE],
+        vec![255; STATE_SIZE],
+        bytes_of(&Controller::reset(3, 2)),
+    ] {
+        let mut state = given.clone();
+        for (n, m) in [(0, 1), (1, 0), (129, 1), (1, 33), (0, 0), (65535, 65535)] {
+            assert_eq!(raw::make(n, m, &mut state), 2);
+            assert_eq!(state, given);
+        }
+    }
+}
+
+/// What lies behind the answers of a list stays, and so does the state if every command is refused.
+#[test]
 fn a_refused_list_leaves_the_state_and_the_rest_of_the_answers() {
-    let mut state = vec![0; STATE_SIZE];
-    psic::make(3, 2, &mut state).expect("the buffer has a state's size");
-    let given = state.clone();
+    let given = bytes_of(&Controller::reset(3, 2));
+    let mut state = given.clone();
     let list = [4, 4, 0, 0, 0, 5, 0, 0, 0, 0, 7, 1, 0, 0, 0];
     let mut answers = vec![9; 3 * ANSWER_SIZE + 4];
-    assert_eq!(psic::run(&mut state, &list, &mut answers), Ok(3));
+    assert_eq!(bytes::run(&mut state, &list, &mut answers), Ok(3));
     let (written, rest) = answers.split_at(3 * ANSWER_SIZE);
     assert_eq!(written, [4, 0, 0, 0, 0, 7, 0, 0, 0, 0, 8, 0, 0, 0, 0]);
     assert_eq!(rest, [9; 4]);
@@ -164,23 +234,65 @@ fn a_refused_list_leaves_the_state_and_the_rest_of_the_answers() {
 
 #[test]
 fn a_bad_number_ends_a_list_and_what_ran_before_it_stands() {
-    let mut state = vec![0; STATE_SIZE];
-    psic::make(3, 2, &mut state).expect("sizes in range");
+    let mut state = bytes_of(&Controller::reset(3, 2));
     let mut list = Vec::new();
     for (number, at) in [(2, 1), (4, 1), (8, 1), (5, 0)] {
-        list.extend(
-            Encoded {
-                number,
-                at,
-                priority: 0,
-            }
-            .bytes(),
-        );
+        list.extend([number, at, 0, 0, 0]);
     }
     let mut answers = vec![9; 4 * ANSWER_SIZE];
-    assert_eq!(psic::run(&mut state, &list, &mut answers), Ok(2));
+    assert_eq!(bytes::run(&mut state, &list, &mut answers), Ok(2));
     assert!(answers[2 * ANSWER_SIZE..].iter().all(|&byte| byte == 9));
     assert!(controller_of(&state).cores[0].message.filled);
+}
+
+/// The wrapper's accessors say what the reference's own words say, of sound and of broken states.
+#[test]
+fn accessors_agree_with_the_reference() {
+    let mut random = Random::new(run_seed());
+    for _ in 0..40 {
+        let (n, m) = generate::sizes(&mut random);
+        let history = generate::history(random.bits(), n, m, 300, Mix::Busy);
+        let sound = generate::final_state(&history);
+        for state in damage::broken_states(&mut random, &sound) {
+            let controller = Wrapper.load(&state);
+            assert_eq!(controller.is_sound(), well_formed(&state));
+        }
+        let controller = Wrapper.load(&sound);
+        assert!(controller.is_sound());
+        assert_eq!(controller.current_priorities(), sound.current_priorities());
+        assert_eq!(controller.top_priority(), reference::top_priority(n));
+        for id in sound.ids() {
+            let owner = controller.owner(psic::SourceId(id.0));
+            let holds = match owner {
+                None => !sound.source(id).pending,
+                Some(Owner::Source) => sound.source(id).is_waiting(),
+                Some(Owner::Box(core)) => {
+                    let message = sound.cores[usize::from(core.0)].message;
+                    message.filled && message.id == id.0
+                }
+                Some(Owner::Software) => sound.is_claimed(id),
+            };
+            assert!(holds, "{id:?}: {owner:?}");
+        }
+        for id in [0, n + 1, u16::MAX] {
+            assert_eq!(controller.source(psic::SourceId(id)), None);
+            assert_eq!(controller.owner(psic::SourceId(id)), None);
+        }
+        for core in [m, u16::MAX] {
+            assert_eq!(controller.current_priority(psic::CoreId(core)), None);
+        }
+    }
+}
+
+#[test]
+fn a_command_is_read_back_from_its_bytes_and_its_text() {
+    for seed in run_seeds(20) {
+        for command in generate::history(seed, 128, 32, 200, Mix::Even).commands {
+            let command = typed(command);
+            assert_eq!(psic::Command::from_bytes(command.to_bytes()), Some(command));
+            assert_eq!(command.to_string().parse(), Ok(command));
+        }
+    }
 }
 
 fn hex(bytes: &[u8]) -> String {

@@ -5,10 +5,10 @@ use Rattle.cases.proofs.main.Statement.{statement}
 use Rattle.cases.proofs.main.Tie as tie
 
 abbrev Inv-loop : tie.InvT-loop
-Inv-loop s₀ i₀ s i = i ≤ 54
+Inv-loop s₀ i₀ marked₀ good₀ s i marked good = i ≤ 54
 
 abbrev μ-loop : tie.MeasureT-loop
-μ-loop s₀ i₀ s i = 54 - i
+μ-loop s₀ i₀ marked₀ good₀ s i marked good = 54 - i
 
 start-requires : tie.Need-start-requires Inv-loop μ-loop
 start-requires c κs = search needs
@@ -16,32 +16,14 @@ start-requires c κs = search needs
 loop-holds : tie.Need-loop-holds Inv-loop μ-loop
 loop-holds c = search needs
 
-mul-row : tie.Need-mul-row Inv-loop μ-loop
-mul-row c = search needs
-
-add-kind : tie.Need-add-kind Inv-loop μ-loop
-add-kind c = search needs
-
-mul-kind : tie.Need-mul-kind Inv-loop μ-loop
-mul-kind c = search needs
+row-requires : tie.Need-row-requires Inv-loop μ-loop
+row-requires c κs = search needs
 
 array-read-kind : tie.Need-array-read-kind Inv-loop μ-loop
 array-read-kind c = search needs
 
-add-at : tie.Need-add-at Inv-loop μ-loop
-add-at c = search needs
-
-mul-at : tie.Need-mul-at Inv-loop μ-loop
-mul-at c = search needs
-
 array-read-at : tie.Need-array-read-at Inv-loop μ-loop
 array-read-at c = search needs
-
-add-priority : tie.Need-add-priority Inv-loop μ-loop
-add-priority c = search needs
-
-mul-priority : tie.Need-mul-priority Inv-loop μ-loop
-mul-priority c = search needs
 
 array-read-priority : tie.Need-array-read-priority Inv-loop μ-loop
 array-read-priority c = search needs
@@ -51,9 +33,6 @@ command-requires c κs = search needs
 
 enum-known-c : tie.Need-enum-known-c Inv-loop μ-loop
 enum-known-c c = search needs
-
-mul-label : tie.Need-mul-label Inv-loop μ-loop
-mul-label c = search needs
 
 array-read-label : tie.Need-array-read-label Inv-loop μ-loop
 array-read-label c = search needs
@@ -69,6 +48,24 @@ execute-requires c κs = search needs
 
 answer-requires : tie.Need-answer-requires Inv-loop μ-loop
 answer-requires c κs = search needs
+
+array-read-if1 : tie.Need-array-read-if1 Inv-loop μ-loop
+array-read-if1 c = search needs
+
+as-wanted-requires : tie.Need-as-wanted-requires Inv-loop μ-loop
+as-wanted-requires c κs = search needs
+
+verdict-requires : tie.Need-verdict-requires Inv-loop μ-loop
+verdict-requires c κs = search needs
+
+one-more-requires : tie.Need-one-more-requires Inv-loop μ-loop
+one-more-requires c κs = search needs
+
+one-more-requires-2 : tie.Need-one-more-requires-2 Inv-loop μ-loop
+one-more-requires-2 c κs = search needs
+
+line-end-requires : tie.Need-line-end-requires Inv-loop μ-loop
+line-end-requires c κs = search needs
 
 enum-told : tie.Need-enum-told Inv-loop μ-loop
 enum-told c = search needs
@@ -94,6 +91,9 @@ loop-less c = search needs
 loop-again : tie.Need-loop-again Inv-loop μ-loop
 loop-again c = search needs
 
+count-requires : tie.Need-count-requires Inv-loop μ-loop
+count-requires c κs = search needs
+
 returns : tie.Need-returns Inv-loop μ-loop
 returns c = search needs
 
@@ -105,24 +105,23 @@ main-spec =
     μ-loop
     start-requires
     loop-holds
-    mul-row
-    add-kind
-    mul-kind
+    row-requires
     array-read-kind
-    add-at
-    mul-at
     array-read-at
-    add-priority
-    mul-priority
     array-read-priority
     command-requires
     enum-known-c
-    mul-label
     array-read-label
     label-requires
     command-requires-2
     execute-requires
     answer-requires
+    array-read-if1
+    as-wanted-requires
+    verdict-requires
+    one-more-requires
+    one-more-requires-2
+    line-end-requires
     enum-told
     start-requires-2
     start-requires-3
@@ -131,4 +130,5 @@ main-spec =
     add-i
     loop-less
     loop-again
+    count-requires
     returns)

@@ -6,7 +6,7 @@ use psic_reference::model::{Model, Reference};
 use psic_reference::random::run_seeds;
 use psic_reference::well_formed::Clause;
 
-use crate::faulty::{Fault, Faulty};
+use crate::faulty::{Fault, Faulty, Field};
 use crate::histories::{set_core, trigger, unmask};
 
 /// The first difference from the reference model within so many rounds.
@@ -43,6 +43,54 @@ fn every_forgotten_clause_is_found() {
         let found = first_difference(&Faulty { fault }, 60);
         assert!(found.is_some(), "{fault:?}");
     }
+}
+
+/// The first accepted command tells, by that field alone.
+#[test]
+fn every_field_of_the_state_is_compared() {
+    let history = History {
+        seed: 0,
+        n: 128,
+        m: 32,
+        commands: vec![unmask(1)],
+    };
+    for field in Field::ALL {
+        let fault = Fault::Writes(field);
+        let comparison = Comparison {
+            left: &Reference,
+            right: &Faulty { fault },
+            seed: history.seed,
+        };
+        for found in [comparison.history(&history), comparison.list(&history)] {
+            let difference = found.unwrap_or_else(|| panic!("{field:?} isn't compared"));
+            assert_eq!(difference.left.1, difference.right.1, "{field:?}");
+            assert!(!difference.same_state, "{field:?}");
+            assert_eq!(difference.fields.len(), 1, "{field:?}");
+            assert!(difference.fields[0].starts_with(&format!("{}:", field.name())));
+        }
+    }
+}
+
+/// States that differ in no field that the message lists are told all the same, and the message says so.
+#[test]
+fn difference_in_an_unlisted_field_is_said() {
+    let history = History {
+        seed: 0,
+        n: 2,
+        m: 1,
+        commands: vec![unmask(1)],
+    };
+    let comparison = Comparison {
+        left: &Reference,
+        right: &Faulty {
+            fault: Fault::Writes(Field::Dirty),
+        },
+        seed: history.seed,
+    };
+    let mut difference = comparison.history(&history).unwrap();
+    difference.fields.clear();
+    let message = difference.to_string();
+    assert!(message.ends_with("the states differ in a field that isn't listed\n"));
 }
 
 #[test]

@@ -1,43 +1,17 @@
 //! Demand 3, held against the ledger.
 
-use psic_reference::demand3;
+use psic_reference::demand3::{self, first_breach, Breach};
 use psic_reference::generate::{self, History, Mix};
 use psic_reference::ledger::{Ledger, Request};
-use psic_reference::model::{Model, Reference};
+use psic_reference::model::Reference;
 use psic_reference::random::{run_seed, Random};
-use psic_reference::records::{Controller, MessageBox, SourceId};
+use psic_reference::records::{Answer, Command, Controller, MessageBox, SourceId};
 
 use crate::faulty::{Fault, Faulty};
-use crate::histories::{for_each_step, random_histories, set_source, trigger, unmask};
-
-/// Runs a history through a model and checks demand 3 after every command. Gives the index of the
-/// first command after which it doesn't hold, with the reason.
-fn first_breach<M: Model>(
-    model: &M,
-    history: &History,
-    every_placement: bool,
-) -> Option<(usize, String)> {
-    let (_, mut state) = model.make(history.n, history.m);
-    let mut ledger = Ledger::reset(history.n, history.m);
-    for (index, &command) in history.commands.iter().enumerate() {
-        let answer = model.execute(&mut state, command);
-        let after = model.read(&state);
-        let checked = ledger
-            .enter(command, answer.number, answer.id)
-            .and_then(|()| demand3::check(&ledger, &after, answer))
-            .and_then(|()| match every_placement {
-                true => demand3::check_every_placement(&ledger, &after),
-                false => Ok(()),
-            });
-        if let Err(reason) = checked {
-            return Some((index, reason));
-        }
-    }
-    None
-}
+use crate::histories::{for_each_step, random_histories, set_core, set_source, trigger, unmask};
 
 fn assert_no_breach(history: &History, every_placement: bool) {
-    if let Some((index, reason)) = first_breach(&Reference, history, every_placement) {
+    if let Some(Breach { index, reason }) = first_breach(&Reference, history, every_placement) {
         panic!(
             "n = {}, m = {}, seed {}, index {index}: {reason}",
             history.n, history.m, history.seed
@@ -130,11 +104,71 @@ fn t2_to_t4() -> History {
         commands.extend([set_source(id, id), unmask(id)]);
     }
     commands.extend([trigger(4), trigger(3), trigger(5)]);
+    of_the_tables_sizes(commands)
+}
+
+fn of_the_tables_sizes(commands: Vec<Command>) -> History {
     History {
         seed: 0,
         n: 32,
         m: 2,
         commands,
+    }
+}
+
+/// A fault, commands that bring it out, the index of the last of them, and what the check says then.
+type Case = (Fault, Vec<Command>, usize, &'static str);
+
+/// For each part of the check a model that breaks this part alone.
+fn faults_of_one_part() -> [Case; 4] {
+    // T10: a request of the cores' own priority.
+    let cores_at_4 = [set_core(0, 4), set_core(1, 4)];
+    let t10 = [
+        &[set_source(4, 4), unmask(4)],
+        &cores_at_4[..],
+        &[trigger(4)],
+    ]
+    .concat();
+    let one = vec![unmask(4), trigger(4)];
+    let two_equal = vec![unmask(4), unmask(5), trigger(4), trigger(5)];
+    let twice = Fault::BoxesOneOfTwoEqualRequestsTwice;
+    let too_many = Fault::Reports2mPlus1Cycles;
+    [
+        (Fault::AtLeast, t10, 4, "not above its 4"),
+        (Fault::BoxNamesAnIdleSource, one, 1, "not an open one"),
+        (twice, two_equal, 3, "a second time"),
+        (too_many, vec![unmask(4)], 0, "5 cycles, at most 4 allowed"),
+    ]
+}
+
+/// Each part finds its model, and says so.
+#[test]
+fn each_part_of_the_check_is_needed() {
+    for (fault, commands, index, reason) in faults_of_one_part() {
+        let breach = first_breach(&Faulty { fault }, &of_the_tables_sizes(commands), false);
+        let breach = breach.unwrap_or_else(|| panic!("{fault:?} isn't found"));
+        assert_eq!(breach.index, index, "{fault:?}");
+        assert!(
+            breach.reason.contains(reason),
+            "{fault:?}: {}",
+            breach.reason
+        );
+    }
+}
+
+#[test]
+fn cycles_of_2m_are_taken_and_one_more_is_not() {
+    for m in 1..=32 {
+        let (ledger, after) = (Ledger::reset(1, m), Controller::reset(1, m));
+        let checked = |cycles| {
+            let answer = Answer {
+                number: 0,
+                id: 0,
+                cycles,
+            };
+            demand3::check(&ledger, &after, answer).is_ok()
+        };
+        assert!(checked(2 * m) && !checked(2 * m + 1), "m = {m}");
     }
 }
 
@@ -147,13 +181,16 @@ fn dummies_are_found() {
     ];
     for (fault, index) in cases {
         let breach = first_breach(&Faulty { fault }, &t2_to_t4(), false);
-        assert_eq!(breach.map(|(index, _)| index), Some(index), "{fault:?}");
+        assert_eq!(breach.map(|breach| breach.index), Some(index), "{fault:?}");
     }
 }
 
 #[test]
 fn faults_that_show_in_the_priorities_are_found() {
     let faults = [
+        Fault::AtLeast,
+        Fault::BoxNamesAnIdleSource,
+        Fault::BoxesOneOfTwoEqualRequestsTwice,
         Fault::OnlyWrittenBoxDirty,
         Fault::ConfiguredForRequest,
         Fault::CompleteLowersTheCore,

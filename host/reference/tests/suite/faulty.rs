@@ -30,16 +30,97 @@ pub enum Fault {
     PriorityCheckedBeforeTheId,
     /// A state that violates this clause alone is taken for sound and handed back.
     Forgets(Clause),
-    RefusedMakeKeepsTheSizes,
+    /// An accepted command hands back the right state but for this field of one record.
+    Writes(Field),
+    MakesSizesOutOfRange,
+    /// A list stops after its first refused command.
+    ListEndsAtARefusal,
     SearchSkipsPriority0,
     SearchTakesLongLists,
     ClaimsDirtyRecords,
     RefusedClaimEmptiesTheRecord,
+    ClaimedRecordIsDirty,
+    // What demand 3 alone can tell.
+    Reports2mPlus1Cycles,
+    BoxNamesAnIdleSource,
+    BoxesOneOfTwoEqualRequestsTwice,
+}
+
+/// A field of a state: of its sizes, of a source or of a core.
+#[derive(Clone, Copy, Debug, PartialEq, Eq)]
+pub enum Field {
+    N,
+    M,
+    SourceConfigured,
+    Masked,
+    Pending,
+    Delivered,
+    Request,
+    CoreConfigured,
+    Filled,
+    Dirty,
+    BoxId,
+    BoxPriority,
+}
+
+impl Field {
+    pub const ALL: [Field; 12] = [
+        Field::N,
+        Field::M,
+        Field::SourceConfigured,
+        Field::Masked,
+        Field::Pending,
+        Field::Delivered,
+        Field::Request,
+        Field::CoreConfigured,
+        Field::Filled,
+        Field::Dirty,
+        Field::BoxId,
+        Field::BoxPriority,
+    ];
+
+    /// Gives the field another value: of the last source or of the last core.
+    fn write(self, controller: &mut Controller) {
+        let source = &mut controller.sources[127];
+        let core = &mut controller.cores[31];
+        match self {
+            Field::N => controller.n ^= 1,
+            Field::M => controller.m ^= 1,
+            Field::SourceConfigured => source.configured ^= 1,
+            Field::Masked => source.masked ^= true,
+            Field::Pending => source.pending ^= true,
+            Field::Delivered => source.delivered ^= true,
+            Field::Request => source.request ^= 1,
+            Field::CoreConfigured => core.configured ^= 1,
+            Field::Filled => core.message.filled ^= true,
+            Field::Dirty => core.message.dirty ^= true,
+            Field::BoxId => core.message.id ^= 1,
+            Field::BoxPriority => core.message.priority ^= 1,
+        }
+    }
+
+    /// The field as a difference names it.
+    pub fn name(self) -> &'static str {
+        match self {
+            Field::N => "n",
+            Field::M => "m",
+            Field::SourceConfigured => "source 128 configured",
+            Field::Masked => "source 128 masked",
+            Field::Pending => "source 128 pending",
+            Field::Delivered => "source 128 delivered",
+            Field::Request => "source 128 request",
+            Field::CoreConfigured => "core 31 configured",
+            Field::Filled => "core 31 box filled",
+            Field::Dirty => "core 31 box dirty",
+            Field::BoxId => "core 31 box id",
+            Field::BoxPriority => "core 31 box priority",
+        }
+    }
 }
 
 impl Fault {
-    /// All faults but the forgotten clauses.
-    pub const ALL: [Fault; 20] = [
+    /// All faults but the forgotten clauses and the written fields.
+    pub const ALL: [Fault; 25] = [
         Fault::AtLeast,
         Fault::OnlyWrittenBoxDirty,
         Fault::AnyCoreBelow,
@@ -55,11 +136,16 @@ impl Fault {
         Fault::DeliversMasked,
         Fault::BoxedRequestsComplete,
         Fault::PriorityCheckedBeforeTheId,
-        Fault::RefusedMakeKeepsTheSizes,
+        Fault::MakesSizesOutOfRange,
+        Fault::ListEndsAtARefusal,
         Fault::SearchSkipsPriority0,
         Fault::SearchTakesLongLists,
         Fault::ClaimsDirtyRecords,
         Fault::RefusedClaimEmptiesTheRecord,
+        Fault::ClaimedRecordIsDirty,
+        Fault::Reports2mPlus1Cycles,
+        Fault::BoxNamesAnIdleSource,
+        Fault::BoxesOneOfTwoEqualRequestsTwice,
     ];
 }
 
@@ -137,8 +223,30 @@ impl Faulty {
         }
         if above {
             reference::deliver(controller, id, core);
+            self.misname(controller, core);
         }
         above
+    }
+
+    /// The request that was put into the core's box gets another one's id, its priority being right.
+    fn misname(&self, controller: &mut Controller, core: CoreNumber) {
+        let boxed = controller.core(core).message;
+        let mut ids = controller.ids();
+        let mut others = controller.core_numbers().filter(|&other| other != core);
+        let same_priority = |&other: &CoreNumber| {
+            let message = controller.core(other).message;
+            message.filled && message.priority == boxed.priority
+        };
+        let name = match self.fault {
+            Fault::BoxNamesAnIdleSource => ids.find(|&id| !controller.source(id).pending),
+            Fault::BoxesOneOfTwoEqualRequestsTwice => others
+                .find(same_priority)
+                .map(|other| SourceId(controller.core(other).message.id)),
+            _ => None,
+        };
+        if let Some(id) = name {
+            controller.core_mut(core).message.id = id.0;
+        }
     }
 
     fn candidate(&self, controller: &Controller) -> Option<SourceId> {
@@ -188,11 +296,10 @@ impl Model for Faulty {
     }
 
     fn make(&self, n: u16, m: u16) -> (u8, Controller) {
-        let (number, controller) = reference::make(n, m);
-        if number != 0 && self.has(Fault::RefusedMakeKeepsTheSizes) {
-            return (number, Controller::reset(n, m));
+        if self.has(Fault::MakesSizesOutOfRange) {
+            return (0, Controller::reset(n, m));
         }
-        (number, controller)
+        reference::make(n, m)
     }
 
     fn execute(&self, state: &mut Controller, command: Command) -> Answer {
@@ -214,18 +321,32 @@ impl Model for Faulty {
         match self.fault {
             Fault::HandsBackTheResetState => *state = Controller::reset(before.n, before.m),
             Fault::ChangesNothing => *state = before,
+            Fault::Writes(field) => field.write(state),
             _ => {}
         }
-        let cycles = if self.has(Fault::AlwaysReports2mCycles) {
-            2 * state.m
-        } else {
-            cycles
+        let cycles = match self.fault {
+            Fault::AlwaysReports2mCycles => 2 * state.m,
+            Fault::Reports2mPlus1Cycles => 2 * state.m + 1,
+            _ => cycles,
         };
         Answer {
             number: 0,
             id,
             cycles,
         }
+    }
+
+    fn run(&self, state: &mut Controller, commands: &[Command]) -> Vec<Answer> {
+        let mut ended = false;
+        let execute = |&command: &Command| {
+            if ended && self.has(Fault::ListEndsAtARefusal) {
+                return Answer::refused(Refusal::Unsound);
+            }
+            let answer = self.execute(state, command);
+            ended |= answer.number != 0;
+            answer
+        };
+        commands.iter().map(execute).collect()
     }
 
     fn load(&self, controller: &Controller) -> Controller {
@@ -258,6 +379,9 @@ impl Model for Faulty {
         let answer = reference::claim_in_place(core);
         if self.has(Fault::RefusedClaimEmptiesTheRecord) && answer.0 != 0 {
             *core = Core::RESET;
+        }
+        if self.has(Fault::ClaimedRecordIsDirty) && answer.0 == 0 {
+            core.message.dirty = true;
         }
         answer
     }

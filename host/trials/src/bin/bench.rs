@@ -19,10 +19,7 @@ fn main() {
                 number(m) as u16,
                 number(count) as usize,
             );
-            let bytes: Vec<u8> = commands
-                .iter()
-                .flat_map(|&c| library::encoded(c).bytes())
-                .collect();
+            let bytes: Vec<u8> = commands.iter().flat_map(|&c| library::encoded(c)).collect();
             std::fs::write(file, bytes).expect("the file can be written");
         }
         [side @ ("library" | "fast"), n, m, count, file] => {
@@ -68,7 +65,7 @@ fn number(word: &str) -> u64 {
 
 fn by_library(n: u16, m: u16, commands: &[Command]) -> Vec<Answer> {
     let mut state = vec![0; psic::STATE_SIZE];
-    psic::make(n, m, &mut state).expect("the buffer has a state's size");
+    psic::bytes::make(n, m, &mut state).expect("the sizes are in range");
     library::run_list(&mut state, commands)
 }
 

@@ -1,9 +1,9 @@
 //! A long comparison of the proved library with the reference model.
 //!
-//! usage: soak [ROUNDS [LENGTH [SEED]]]     (default: 12000 rounds of 1000 commands, and a seed from the clock)
+//! usage: `soak [ROUNDS [LENGTH [SEED]]]` (default: 12000 rounds of 1000 commands, and a seed from the clock)
 //!
-//! Each round runs, from one printed seed, makings of any sizes, a history, one command of each kind on broken states made from its end, and
-//! lent records. The first difference ends the run with status 1.
+//! Each round runs, from one printed seed, makings of any sizes, a history by single commands and as a list, one command of each kind
+//! and all of them as a list on broken states made from its end, and lent records. The first difference ends the run with status 1.
 
 use std::time::{SystemTime, UNIX_EPOCH};
 

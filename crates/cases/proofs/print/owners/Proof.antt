@@ -52,6 +52,9 @@ holder-requires c κs = search needs
 owner-requires : tie.Need-owner-requires Inv-loop μ-loop
 owner-requires c κs = search needs
 
+owner-text-requires : tie.Need-owner-text-requires Inv-loop μ-loop
+owner-text-requires c κs = search needs
+
 add-i : tie.Need-add-i Inv-loop μ-loop
 add-i c = search needs
 
@@ -84,6 +87,7 @@ owners-spec =
     add-holder
     holder-requires
     owner-requires
+    owner-text-requires
     add-i
     loop-less
     loop-again

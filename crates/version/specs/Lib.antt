@@ -1,0 +1,2 @@
+-- How a version is written as a number.
+pub mod Version

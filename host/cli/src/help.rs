@@ -1,0 +1,58 @@
+//! What the program says of itself.
+
+use std::io::{self, Write};
+
+use crate::failure::Failure;
+
+/// The text of `psic --help`.
+pub const HELP: &str = "\
+psic: a proved model of the PSIC interrupt controller
+
+usage: psic run --sources N --cores M [FILE]
+       psic refusals
+       psic --help | --version
+
+psic run
+    makes a fresh controller of N sources, 1 to 128, and M cores, 1 to 32, takes commands from FILE, or from
+    standard input if there is none or it is '-', and prints for each what it answers. A line is a command:
+
+        set source ID to PRIORITY       the priority of the source's next request
+        mask ID                         the source's request isn't delivered
+        unmask ID                       it may be delivered
+        set core CORE to PRIORITY       the core's own priority; all boxes are delivered anew
+        trigger ID                      opens a request of the source
+        claim on core CORE              takes the request out of the core's box
+        redeliver ID                    a claimed request waits again
+        complete ID                     a claimed request ends
+
+    IDs are 1 to N, cores 0 to M - 1. Empty lines and what follows a '#' are skipped. A command that the controller
+    refuses is an answer, and the next one is taken; a line that is no command ends the run.
+
+    trigger 4: accepted, 1 cycle, [4,0]  4: box 0
+        After the colon: 'accepted', or the number for no with its words; the claimed id, if there is one; the cycles of
+        settling; each core's current priority, core 0 first; and who owns each pending request: the source while it
+        waits, the box of a core, or the software that claimed it.
+
+psic refusals
+    prints the numbers for no in words.
+
+Exit status: 0; 1 if a file or a line can't be read, a size is out of range, or the output can't be written; 2 for wrong
+usage. A refused command is no failure.
+
+Example: printf 'unmask 1\\ntrigger 1\\nclaim on core 0\\n' | psic run --sources 2 --cores 4
+";
+
+/// The text of `psic --version`: the program's version, and the one that the library answers.
+pub fn version() -> String {
+    let number = psic::library_version();
+    let (major, minor, patch) = (number / 10000, number / 100 % 100, number % 100);
+    let program = env!("CARGO_PKG_VERSION");
+    format!("psic {program}, on libpsic {major}.{minor}.{patch}\n")
+}
+
+/// Writes a text to standard output.
+pub fn print(text: &str) -> Result<(), Failure> {
+    let mut out = io::stdout().lock();
+    out.write_all(text.as_bytes())?;
+    Ok(out.flush()?)
+}

@@ -1,0 +1,46 @@
+//! Calls on a state as bytes that the host owns (docs/ENCODING.md), for a host that keeps states in memory of its own.
+//!
+//! Any bytes may be handed in. Bytes that encode no state and buffers that don't fit are refused by [`Refusal::Unreadable`], and every
+//! refusal leaves all buffers as they were.
+//!
+//! ```
+//! use psic::{bytes, Answer, Command, SourceId, ANSWER_SIZE, STATE_SIZE};
+//!
+//! # fn main() -> Result<(), psic::Refusal> {
+//! let mut state = [0; STATE_SIZE];
+//! bytes::make(32, 2, &mut state)?;
+//! let list = [Command::Unmask(SourceId(4)), Command::Trigger(SourceId(4))].map(Command::to_bytes);
+//! let mut answers = [[0; ANSWER_SIZE]; 2];
+//! assert_eq!(bytes::run(&mut state, list.as_flattened(), answers.as_flattened_mut())?, 2);
+//! assert_eq!(Answer::from_bytes(answers[1])?.cycles, 1);
+//! # Ok(())
+//! # }
+//! ```
+
+use crate::answer::{Answer, Refusal};
+use crate::command::Command;
+use crate::raw;
+
+/// The bytes of a state.
+pub const STATE_SIZE: usize = 1156;
+
+/// Makes a fresh controller of n sources and m cores in a buffer of [`STATE_SIZE`] bytes.
+pub fn make(n: u16, m: u16, state: &mut [u8]) -> Result<(), Refusal> {
+    Answer::unpacked(raw::make(n, m, state)).map(|_| ())
+}
+
+/// Runs one command on the state that the bytes encode.
+pub fn execute(state: &mut [u8], command: Command) -> Result<Answer, Refusal> {
+    let (number, at, priority) = command.numbers();
+    Answer::unpacked(raw::execute(state, u16::from(number), at, priority))
+}
+
+/// Runs a list of commands, [`COMMAND_SIZE`](crate::COMMAND_SIZE) bytes each, and writes an answer of
+/// [`ANSWER_SIZE`](crate::ANSWER_SIZE) bytes for each to the front of `answers`. Gives how many commands were taken: a refused one is
+/// answered and the list goes on; one with a number above 7 ends it.
+pub fn run(state: &mut [u8], list: &[u8], answers: &mut [u8]) -> Result<usize, Refusal> {
+    match raw::run(state, list, answers) {
+        u64::MAX => Err(Refusal::Unreadable),
+        taken => Ok(taken as usize),
+    }
+}

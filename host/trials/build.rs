@@ -1,0 +1,14 @@
+//! Has the linker hand the tests' calls of the library to tests/slips/mod.rs, which passes them on.
+
+fn main() {
+    println!("cargo:rerun-if-changed=build.rs");
+    for call in [
+        "psic_make",
+        "psic_execute",
+        "psic_run",
+        "psic_highest_in",
+        "psic_claim_in_place",
+    ] {
+        println!("cargo:rustc-link-arg-tests=-Wl,--wrap={call}");
+    }
+}

@@ -1,0 +1,190 @@
+//! A slip between the library and its caller. The linker hands each call of the library to a function of this file (build.rs), which
+//! passes it on to the library and, where a test asks for it, alters what the library answered. A comparison that doesn't look at the
+//! library's own answers finds no slip.
+
+use std::cell::Cell;
+
+use psic::raw::{Claimed, Found};
+use psic::{Core, Source, ANSWER_SIZE, STATE_SIZE};
+
+/// What of a call's answer is altered, if the call was accepted.
+#[derive(Clone, Copy, Debug, PartialEq, Eq)]
+pub enum Slip {
+    MakeNumber,
+    MakeState,
+    ExecuteNumber,
+    ExecuteId,
+    ExecuteCycles,
+    ExecuteState,
+    RunNumber,
+    RunCycles,
+    RunState,
+    SearchNumber,
+    SearchPosition,
+    ClaimNumber,
+    ClaimId,
+    ClaimRecord,
+}
+
+impl Slip {
+    pub const ALL: [Slip; 14] = [
+        Slip::MakeNumber,
+        Slip::MakeState,
+        Slip::ExecuteNumber,
+        Slip::ExecuteId,
+        Slip::ExecuteCycles,
+        Slip::ExecuteState,
+        Slip::RunNumber,
+        Slip::RunCycles,
+        Slip::RunState,
+        Slip::SearchNumber,
+        Slip::SearchPosition,
+        Slip::ClaimNumber,
+        Slip::ClaimId,
+        Slip::ClaimRecord,
+    ];
+}
+
+thread_local! {
+    static SLIP: Cell<Option<Slip>> = const { Cell::new(None) };
+}
+
+/// Does something with a slip in this thread's calls of the library.
+pub fn with_slip<T>(slip: Slip, act: impl FnOnce() -> T) -> T {
+    SLIP.set(Some(slip));
+    let outcome = act();
+    SLIP.set(None);
+    outcome
+}
+
+fn slips(slip: Slip) -> bool {
+    SLIP.get() == Some(slip)
+}
+
+extern "C" {
+    fn __real_psic_make(n: u16, m: u16, state: *mut u8, state_len: usize) -> u64;
+    fn __real_psic_execute(
+        state: *mut u8,
+        state_len: usize,
+        number: u16,
+        at: u16,
+        priority: u16,
+    ) -> u64;
+    fn __real_psic_run(
+        state: *mut u8,
+        state_len: usize,
+        list: *const u8,
+        list_len: usize,
+        answers: *mut u8,
+        answers_len: usize,
+    ) -> u64;
+    fn __real_psic_highest_in(list: *const Source, list_len: usize) -> Found;
+    fn __real_psic_claim_in_place(core: *mut Core) -> Claimed;
+}
+
+/// Flips a bit of the last core's box priority.
+///
+/// # Safety
+///
+/// The pointer is to a state's buffer, which nobody else uses meanwhile.
+unsafe fn flip_last(state: *mut u8) {
+    // SAFETY: the buffer has STATE_SIZE bytes.
+    unsafe { *state.add(STATE_SIZE - 1) ^= 1 };
+}
+
+#[no_mangle]
+unsafe extern "C" fn __wrap_psic_make(n: u16, m: u16, state: *mut u8, state_len: usize) -> u64 {
+    // SAFETY: the arguments are passed on as they came, and the buffer of an accepted call is a state's.
+    unsafe {
+        let packed = __real_psic_make(n, m, state, state_len);
+        if packed == 0 && slips(Slip::MakeState) {
+            flip_last(state);
+        }
+        if packed == 0 && slips(Slip::MakeNumber) {
+            return 2;
+        }
+        packed
+    }
+}
+
+#[no_mangle]
+unsafe extern "C" fn __wrap_psic_execute(
+    state: *mut u8,
+    state_len: usize,
+    number: u16,
+    at: u16,
+    priority: u16,
+) -> u64 {
+    // SAFETY: the arguments are passed on as they came, and the buffer of an accepted call is a state's.
+    unsafe {
+        let packed = __real_psic_execute(state, state_len, number, at, priority);
+        if packed & 0xff != 0 {
+            return packed;
+        }
+        if slips(Slip::ExecuteState) {
+            flip_last(state);
+        }
+        match SLIP.get() {
+            Some(Slip::ExecuteNumber) => packed + 8,
+            Some(Slip::ExecuteId) => packed + (1 << 8),
+            Some(Slip::ExecuteCycles) => packed + (1 << 24),
+            _ => packed,
+        }
+    }
+}
+
+#[no_mangle]
+unsafe extern "C" fn __wrap_psic_run(
+    state: *mut u8,
+    state_len: usize,
+    list: *const u8,
+    list_len: usize,
+    answers: *mut u8,
+    answers_len: usize,
+) -> u64 {
+    // SAFETY: the arguments are passed on as they came; the buffers of a call that took commands are a state's and theirs.
+    unsafe {
+        let taken = __real_psic_run(state, state_len, list, list_len, answers, answers_len);
+        if taken == 0 || taken == u64::MAX {
+            return taken;
+        }
+        let last = answers.add(ANSWER_SIZE * (taken as usize - 1));
+        match SLIP.get() {
+            Some(Slip::RunState) => flip_last(state),
+            Some(Slip::RunNumber) => *last = if *last == 0 { 8 } else { 0 },
+            Some(Slip::RunCycles) if *last == 0 => *last.add(3) += 1,
+            _ => {}
+        }
+        taken
+    }
+}
+
+#[no_mangle]
+unsafe extern "C" fn __wrap_psic_highest_in(list: *const Source, list_len: usize) -> Found {
+    // SAFETY: the arguments are passed on as they came.
+    let mut found = unsafe { __real_psic_highest_in(list, list_len) };
+    if found.number == 0 && slips(Slip::SearchPosition) {
+        found.position += 1;
+    }
+    if found.number == 0 && slips(Slip::SearchNumber) {
+        found.number = 2;
+    }
+    found
+}
+
+#[no_mangle]
+unsafe extern "C" fn __wrap_psic_claim_in_place(core: *mut Core) -> Claimed {
+    // SAFETY: the argument is passed on as it came, and lent for the call.
+    let mut claimed = unsafe { __real_psic_claim_in_place(core) };
+    if claimed.number == 0 && slips(Slip::ClaimRecord) {
+        // SAFETY: as above.
+        unsafe { (*core).configured ^= 1 };
+    }
+    if claimed.number == 0 && slips(Slip::ClaimId) {
+        claimed.id.0 += 1;
+    }
+    if claimed.number == 0 && slips(Slip::ClaimNumber) {
+        claimed.number = 7;
+    }
+    claimed
+}
