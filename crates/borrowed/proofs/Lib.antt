@@ -6,4 +6,3 @@
 pub mod Claims
 pub mod Searches
 pub mod Filling
-pub mod LentClaim

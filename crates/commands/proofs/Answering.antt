@@ -27,7 +27,7 @@ use Rattle.model.specs.WellFormed.{sizesInRange, wellFormed, WellFormed}
 use Rattle.model.specs.Commands.{unless, namesSource, namesCore, effect, refusalOf, refusal, answeredId, settled, refused, execute, make}
 use Rattle.lists.proofs.Exact.{between-exact}
 use Rattle.soundness.proofs.Test.{wellFormed-out}
-use Rattle.guarantees.proofs.Accepted.{execute-accepted, execute-refused}
+use Rattle.effects.proofs.Accepted.{execute-accepted, execute-refused}
 
 -- ---- a test and its answer
 

@@ -21,11 +21,11 @@ use Rattle.settling.specs.declared.Retracted.{Retracted}
 use Rattle.settling.specs.Phases.{AllDirty}
 use Rattle.settling.specs.Runs.{AfterRetractions, AfterDeliveries}
 use Rattle.settling.proofs.Determined.{after-settles, after-counts}
-use Rattle.guarantees.proofs.Checked.{Checked, checked}
-use Rattle.guarantees.proofs.CoreEffects.{setCores, set-allDirty}
-use Rattle.guarantees.proofs.Effects.{effect-consistent}
+use Rattle.effects.proofs.Checked.{Checked, checked}
+use Rattle.effects.proofs.CoreEffects.{setCores, set-allDirty}
+use Rattle.effects.proofs.Effects.{effect-consistent}
 use Rattle.commands.proofs.Answering.{answers}
-use Rattle.guarantees.proofs.AtRest.{claim-answer}
+use Rattle.effects.proofs.AtRest.{claim-answer}
 
 -- ---- claim
 

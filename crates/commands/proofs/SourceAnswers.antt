@@ -29,8 +29,8 @@ use Rattle.soundness.proofs.Test.{wellFormed-out}
 use Rattle.settling.specs.Phases.{Delivering}
 use Rattle.settling.specs.Runs.{AfterDeliveries}
 use Rattle.settling.proofs.Next.{Settled}
-use Rattle.guarantees.proofs.Effects.{effect-consistent}
-use Rattle.guarantees.proofs.AtRest.{still, unmoved, delivered}
+use Rattle.effects.proofs.Effects.{effect-consistent}
+use Rattle.effects.proofs.AtRest.{still, unmoved, delivered}
 use Rattle.commands.proofs.Answering.{Asks, passes, answers, Addressed}
 
 -- ---- the six commands

@@ -1,2 +1,0 @@
--- Helpers of the proofs. Nothing here needs to be believed.
-pub mod Matches

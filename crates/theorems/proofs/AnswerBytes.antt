@@ -1,0 +1,82 @@
+-- What stands in the answers' buffer after a run: the answers' bytes, and behind them what stood there before. Assumes nothing.
+--   written          the buffer, from what was answered
+--   entries-read     the entries read from the answers' bytes are those of the commands
+--   kept-refused     commands that answer no 0 leave the state
+--   cycles-told      the cycles read from the answers' bytes are at most 2m
+use Prim.Native.Nat.{ℕ, zero, suc, _+_, _*_, _<_, _≤_}
+use mathlib.Core.Path.{_≡_, refl, _∙_, ap}
+use mathlib.Core.Logic.{_≢_}
+use mathlib.Core.List.{List, [], _∷_, _++_}
+use native.Mathlib.Omega.{arith}
+use native.Mathlib.Nat.{not-suc-le-zero, le-of-suc-le-suc}
+use lib.ListN.{length, getD, drop}
+use lib.Seq.{sets, sets-eq}
+use Rattle.model.specs.Behaviours.{runBy, answersBy}
+use Rattle.model.specs.declared.Controller.{Controller}
+use Rattle.model.specs.declared.Command.{Command}
+use Rattle.model.specs.declared.Answer.{Answer}
+use Rattle.model.specs.Commands.{effect, settled, refused, execute, run}
+use Rattle.model.specs.Ledger.{answersTo, paired, entries}
+use Rattle.model.specs.Bytes.{wordAt, answerSize, answerBytes, entriesIn}
+use Rattle.lists.specs.Rows.{joined}
+use Rattle.encoding.proofs.Records.{word-back}
+use Rattle.lists.proofs.Rows.{length-joined}
+use Rattle.settling.proofs.Keeps.{settle-keeps}
+use Rattle.effects.proofs.Accepted.{by-answer}
+use Rattle.effects.proofs.Effects.{effect-m}
+use Rattle.effects.proofs.Kept.{cycles-bounded}
+use Rattle.theorems.proofs.Refusals.{refused-unchanged}
+use Rattle.exports.proofs.Calls.{answersFrom}
+
+answers-count : (s : Controller) (cs : List Command) → length (answersTo s cs) ≡ length cs
+unfolding answersBy
+answers-count s [] = refl
+answers-count s (c ∷ cs) = ap suc (answers-count ((execute s c) .state) cs)
+
+pub answers-length : (s : Controller) (cs : List Command) → length (answersFrom s cs) ≡ answerSize * length cs
+answers-length s cs =
+    length-joined answerBytes answerSize (λ a. refl) (answersTo s cs) ∙ ap (λ (n : ℕ). answerSize * n) (answers-count s cs)
+
+pub written :
+    (answers : List ℕ) (s : Controller) (cs : List Command) → answerSize * length cs ≤ length answers →
+    sets answers 0 (answersFrom s cs) ≡ answersFrom s cs ++ drop (answerSize * length cs) answers
+written answers s cs h =
+    let size : 0 + length (answersFrom s cs) ≡ answerSize * length cs = omega (arith, answers-length s cs) in
+    sets-eq (answersFrom s cs) answers 0 (omega (arith, size)) ∙ ap (λ (k : ℕ). answersFrom s cs ++ drop k answers) size
+
+pub entries-read : (s : Controller) (cs : List Command) (rest : List ℕ) → entriesIn cs (answersFrom s cs ++ rest) ≡ entries s cs
+unfolding entriesIn answersBy paired joined
+entries-read s [] rest = refl
+entries-read s (c ∷ cs) rest = rw (word-back ((execute s c) .id .0), entries-read ((execute s c) .state) cs rest)
+
+-- a command that answers no 0 hands back the state
+pub refused-state : (s : Controller) (c : Command) → (execute s c) .number ≢ 0 → (execute s c) .state ≡ s
+refused-state s c h = ap (λ (a : Answer). a .state) (refused-unchanged s c h)
+
+pub kept-refused :
+    (s : Controller) (cs : List Command) (rest : List ℕ) →
+    ((i : ℕ) → i < length cs → getD (answersFrom s cs ++ rest) (answerSize * i) 0 ≢ 0) → run s cs ≡ s
+unfolding runBy answersBy joined
+kept-refused s [] rest h = refl
+kept-refused s (c ∷ cs) rest h =
+    let next : (i : ℕ) → answerSize * suc i ≡ suc (suc (suc (suc (suc (answerSize * i))))) = λ i. omega arith in
+    kept-refused ((execute s c) .state) cs rest
+    (λ i p q. h (suc i) (omega arith) (rw (next i) q))
+    ∙ refused-state s c (h 0 (omega arith))
+
+-- ---- cycles
+
+execute-m : (s : Controller) (c : Command) → (execute s c) .state .m ≡ s .m
+unfolding settled refused
+execute-m s c = by-answer s c (λ a. a .state .m ≡ s .m) (λ e. (settle-keeps _ (effect s c)) .m-same ∙ effect-m s c) (λ h. refl)
+
+pub cycles-told :
+    (m : ℕ) (s : Controller) (cs : List Command) (rest : List ℕ) → s .m ≡ m → (i : ℕ) → i < length cs →
+    wordAt (answersFrom s cs ++ rest) (answerSize * i + 3) ≤ 2 * m
+unfolding answersBy joined
+cycles-told m s [] rest e i h = absurd (not-suc-le-zero h)
+cycles-told m s (c ∷ cs) rest e zero h = rw (word-back ((execute s c) .cycles)) (omega (arith, e, cycles-bounded s c))
+cycles-told m s (c ∷ cs) rest e (suc i) h =
+    let next : answerSize * suc i + 3 ≡ suc (suc (suc (suc (suc (answerSize * i + 3))))) = omega arith in
+    let behind : answerSize * suc i + 3 + 1 ≡ suc (suc (suc (suc (suc (answerSize * i + 3 + 1))))) = omega arith in
+    rw (behind, next) (cycles-told m ((execute s c) .state) cs rest (execute-m s c ∙ e) i (le-of-suc-le-suc h))

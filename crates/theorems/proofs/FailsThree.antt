@@ -1,0 +1,88 @@
+-- Demand 3 over lists is false of the dummies that document 01 names for it, and of controllers whose priorities alone are right.
+-- Each is refuted by one list of commands from a fresh controller, computed. Assumes nothing.
+--   booked         opens what a list of commands and its ledger compute with
+--   after, book    the state that a list leaves, and its ledger
+use Prim.Native.Nat.{ℕ, _<_}
+use mathlib.Core.Path.{_≡_, refl, ap}
+use mathlib.Core.List.{List, [], _∷_, _++_}
+use mathlib.Core.Bool.{false}
+use native.Mathlib.Omega.{arith}
+use lib.ListN.{getD, take}
+use lib.Dec.{eqb}
+use borrow.Author.Tests.{eqb-false}
+use Rattle.model.specs.Ledger.{paired, Ledger, opening, post, postAccepted, ledger, competes, collection, given, inBoxes, currentPriorities, entriesBy}
+use Rattle.lists.specs.Sorting.{insertDown, sortDown}
+use Rattle.model.specs.Behaviours.{answersBy, Behaviour, runBy}
+use Rattle.model.specs.declared.Controller.{Controller}
+use Rattle.model.specs.declared.Command.{Command}
+use Rattle.model.specs.declared.Command.the-variants.{SetSourcePriority, Unmask, Trigger}
+use Rattle.model.specs.Records.{sourceId, coreAt}
+use Rattle.model.specs.Requests.{currentPriority}
+use Rattle.model.specs.Commands.{make}
+use Rattle.model.specs.Statements.{InRange, EveryListStrict}
+use Rattle.model.proofs.Examples.{computed}
+use Rattle.theorems.specs.Dummies.{changeNothing, flagsOnly, hollow, growing}
+
+unfoldable pub booked : Behaviour → Controller → List Command → Controller
+unfolding computed make ledger post postAccepted competes collection insertDown sortDown runBy answersBy paired
+booked = runBy
+
+module _ (x : Behaviour) (n m : ℕ) (sizes : InRange n m) (cs : List Command) where
+  abbrev pub after : Controller
+  after = runBy x ((make n m) .state) cs
+
+  abbrev pub book : Ledger
+  book = ledger opening (entriesBy x ((make n m) .state) cs)
+
+  -- the sorted current priorities differ at place j from the highest of the collection
+  not-top :
+      (j : ℕ) →
+      eqb (getD (sortDown (currentPriorities m after)) j 0) (getD (take m (sortDown (collection n m book after))) j 0) ≡ false →
+      ¬ EveryListStrict x
+  not-top j differ h = eqb-false _ _ differ (ap (λ l. getD l j 0) (h n m cs sizes .top-m))
+
+  -- core k stands elsewhere than its box and the ledger say
+  not-given : (k : ℕ) → k < m → eqb (currentPriority (coreAt after k)) (given book (inBoxes after) k) ≡ false → ¬ EveryListStrict x
+  not-given k below differ h = eqb-false _ _ differ (h n m cs sizes .current-given k below)
+
+  other-size : eqb (after .n) n ≡ false → ¬ EveryListStrict x
+  other-size differ h = eqb-false _ _ differ (h n m cs sizes .n-same)
+
+-- ---- the table's T2 and T3, the two sources set up as they are needed
+
+table : InRange 32 2
+table = record { some-source = omega arith; n-le = omega arith; some-core = omega arith; m-le = omega arith }
+
+abbrev upToT2 : List Command
+upToT2 = SetSourcePriority (sourceId 4) 4 ∷ Unmask (sourceId 4) ∷ Trigger (sourceId 4) ∷ []
+
+abbrev upToT3 : List Command
+upToT3 = SetSourcePriority (sourceId 3) 3 ∷ Unmask (sourceId 3) ∷ (upToT2 ++ (Trigger (sourceId 3) ∷ []))
+
+-- T2: the highest current priority is 0, and 4 waits
+pub changeNothing-fails-three : ¬ EveryListStrict changeNothing
+unfolding booked
+changeNothing-fails-three = not-top changeNothing 32 2 table upToT2 0 refl
+
+-- T3: the second current priority is 0, and 3 is in no box
+pub flagsOnly-fails-three : ¬ EveryListStrict flagsOnly
+unfolding booked
+flagsOnly-fails-three = not-top flagsOnly 32 2 table upToT3 1 refl
+
+-- ---- one source and one core
+
+pub smallest : InRange 1 1
+smallest = record { some-source = omega arith; n-le = omega arith; some-core = omega arith; m-le = omega arith }
+
+abbrev pub delivery : List Command
+delivery = Unmask (sourceId 1) ∷ Trigger (sourceId 1) ∷ []
+
+-- the core's record stands at 1 over an empty box, and the ledger has it at 0
+pub hollow-fails-three : ¬ EveryListStrict hollow
+unfolding booked
+hollow-fails-three = not-given hollow 1 1 smallest delivery 0 (omega arith) refl
+
+-- a second source
+pub growing-fails-three : ¬ EveryListStrict growing
+unfolding booked
+growing-fails-three = other-size growing 1 1 smallest delivery refl

@@ -1,0 +1,89 @@
+-- What is refused leaves the lent bytes as they were, call by call. Assumes nothing.
+use Prim.Native.Nat.{ℕ, _*_, _<_, _≤_}
+use mathlib.Core.Path.{_≡_, refl, ap, _∙_}
+use mathlib.Core.Logic.{_≢_}
+use mathlib.Core.List.{List}
+use mathlib.Core.Bool.{true}
+use native.Mathlib.Omega.{arith}
+use lib.ListN.{length, getD, drop}
+use lib.Seq.{length-sets, drop-at}
+use lib.Dec.{eqb}
+use borrow.Author.Tests.{eqb-true}
+use Rattle.lists.proofs.Bools.{and-l, and-r, Flag, on, off, flag}
+use Rattle.model.specs.declared.Decoded.{Decoded}
+use Rattle.model.specs.declared.Decoded.the-variants.{Unknown, Known}
+use Rattle.model.specs.Commands.{execute, make}
+use Rattle.model.specs.Encoding.{commandOf}
+use Rattle.model.specs.Bytes.{stateSize, stateBytes, stateFrom, isState, commandsIn, answerSize, numberIn, Call, makeCall, executedOn, executeCall, noCount, roomFor, fitsRun}
+use Rattle.encoding.specs.Statements.{AreBytes}
+use Rattle.encoding.proofs.RoundTrip.{bytes-written-back}
+use Rattle.exports.specs.Statements.{RefusedMakeKeeps, RefusedExecuteKeeps, RefusedRunKeeps, AllRefusedKeeps, RestKept, RunKeepsRest}
+use Rattle.exports.proofs.Commands.{commands-length}
+use Rattle.exports.proofs.Buffers.{room-enough}
+use Rattle.exports.proofs.Calls.{answersFrom, run-by}
+use Rattle.theorems.proofs.AnswerBytes.{answers-length, written, refused-state, kept-refused}
+
+-- a call that answers a number other than 0 leaves the bytes b
+abbrev Keeps : List ℕ → Call → Type 0
+Keeps b call = numberIn (call .result) ≢ 0 → call .bytes ≡ b
+
+pub refused-make-keeps : RefusedMakeKeeps
+unfolding makeCall
+refused-make-keeps n m b = go (flag (eqb (length b) stateSize)) (flag (eqb ((make n m) .number) 0))
+  where
+    go : Flag (eqb (length b) stateSize) → Flag (eqb ((make n m) .number) 0) → Keeps b (makeCall n m b)
+    go (off e) f = rw e (λ h. refl)
+    go (on e) (off f) = rw (e, f) (λ h. refl)
+    go (on e) (on f) =
+        let accepted : (make n m) .number ≡ 0 = eqb-true _ _ f in
+        rw (e, f) (λ h. absurd (h (omega (arith, accepted))))
+
+-- on bytes that encode a state
+executed-keeps : (b : List ℕ) → AreBytes b → isState b ≡ true → (d : Decoded) → Keeps b (executedOn b d)
+executed-keeps b are e Unknown h = refl
+executed-keeps b are e (Known c) h =
+    let refused : (execute (stateFrom b) c) .number ≢ 0 = λ q. h (omega (arith, q)) in
+    ap stateBytes (refused-state (stateFrom b) c refused) ∙ bytes-written-back b are e
+
+pub refused-execute-keeps : RefusedExecuteKeeps
+unfolding executeCall
+refused-execute-keeps number at p b are = go (flag (isState b))
+  where
+    go : Flag (isState b) → Keeps b (executeCall number at p b)
+    go (on e) = rw e (executed-keeps b are e (commandOf number at p))
+    go (off e) = rw e (λ h. refl)
+
+-- ---- a list
+
+pub refused-run-keeps : RefusedRunKeeps
+refused-run-keeps b list answers h =
+    run-by b list answers (λ ran. ran .result ≡ noCount → (ran .bytes ≡ b) × (ran .answers ≡ answers))
+    (λ e q. absurd (omega (arith, q, commands-length list)))
+    (λ q. (refl, refl))
+
+-- a run has room for its answers
+room : (b list answers : List ℕ) → fitsRun b list answers ≡ true → answerSize * length (commandsIn list) ≤ length answers
+room b list answers e = omega (arith, commands-length list, room-enough b list answers (and-r (isState b) (roomFor list answers) e))
+
+pub all-refused-keeps : AllRefusedKeeps
+all-refused-keeps b list answers are =
+    run-by b list answers (λ ran. ((i : ℕ) → i < ran .result → getD (ran .answers) (answerSize * i) 0 ≢ 0) → ran .bytes ≡ b)
+    (λ e h.
+    let s = stateFrom b in
+    let cs = commandsIn list in
+    let rest = drop (answerSize * length cs) answers in
+    ap stateBytes (kept-refused s cs rest (rw (← written answers s cs (room b list answers e)) h))
+    ∙ bytes-written-back b are (and-l (isState b) (roomFor list answers) e))
+    (λ h. refl)
+
+pub run-keeps-rest : RunKeepsRest
+run-keeps-rest b list answers =
+    run-by b list answers (RestKept answers)
+    (λ e.
+    let v = answersFrom (stateFrom b) (commandsIn list) in
+    let size = answerSize * length (commandsIn list) in (
+      length-sets answers 0 v,
+      ap (drop size) (written answers (stateFrom b) (commandsIn list) (room b list answers e))
+          ∙ drop-at v (drop size answers) size (answers-length (stateFrom b) (commandsIn list)),
+    ))
+    (refl, refl)

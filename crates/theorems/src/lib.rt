@@ -1,0 +1,1 @@
+// The final theorems, and the wrong controllers that refute weaker ones. No code, and nothing stands on it.
