@@ -24,6 +24,22 @@ use Rattle.recording.specs.Records.{start, variable, at, withWidth, with
 use Rattle.recording.specs.Declarations.{signalOf, first, allDeclared, hasCode, declares}
 use Rattle.recording.specs.Stamps.{notGrammar, badVariable, notRising, commandsOf, endOpenStamp}
 
+-- After the definitions, and outside a comment, a block and a vector: here a time may stand, and here the text may end.
+abbrev pub isBody : Place → Bool
+isBody Definition = false
+isBody SkipDefinition = false
+isBody Wire = false
+isBody Width = false
+isBody Code = false
+isBody Name = false
+isBody VarEnd = false
+isBody DefinitionsEnd = false
+isBody Body = true
+isBody SkipBody = false
+isBody BodyCode = false
+isBody Block = false
+isBody BlockCode = false
+
 -- No fault so far.
 abbrev pub isGood : Reader → Bool
 isGood r = eqb (r .fault .number) 0
@@ -157,24 +173,9 @@ readWord r w = cond (isGood r) (readAt (r .place) r w) (only r)
 
 -- ---- the end of the text
 
--- Only after the definitions, and outside a comment, a block and a vector, nothing is missing.
-abbrev pub mayEnd : Place → Bool
-mayEnd Definition = false
-mayEnd SkipDefinition = false
-mayEnd Wire = false
-mayEnd Width = false
-mayEnd Code = false
-mayEnd Name = false
-mayEnd VarEnd = false
-mayEnd DefinitionsEnd = false
-mayEnd Body = true
-mayEnd SkipBody = false
-mayEnd BodyCode = false
-mayEnd Block = false
-mayEnd BlockCode = false
-
+-- Something is missing unless the place is `Body`.
 abbrev pub ending : ℕ → Reader → Reader
-ending n r = cond (mayEnd (r .place)) r (refused notGrammar n r)
+ending n r = cond (isBody (r .place)) r (refused notGrammar n r)
 
 unfoldable pub finish : ℕ → Reader → Read
 finish n r = cond (isGood r) (andThen (endOpenStamp n r) (ending n)) (only r)
