@@ -3,17 +3,15 @@
 use Prim.Native.Nat.{ℕ, zero, suc, _+_, _*_, _-_, _^_, _<_, _≤_, min}
 use mathlib.Core.Path.{_≡_, refl, sym, ap, _∙_}
 use mathlib.Core.Logic.{_≢_}
-use mathlib.Core.List.{List, [], _∷_, _++_, map, List·Memᴰ, List·Memᴰ·head as here, List·Memᴰ·tail as there}
-use mathlib.Core.Bool.{Bool, true, false, _&&_, cond, true≢false}
+use mathlib.Core.List.{List, [], _∷_, _++_, map}
+use mathlib.Core.Bool.{Bool, true, false, cond, true≢false}
 use native.Mathlib.Omega.{arith}
-use native.Mathlib.Nat.{not-suc-le-zero, min-eq-right, mul-le-mul-right, mul-assoc, mul-comm, one-mul, pow-succ', pow-le-pow-right, le-trans}
+use native.Mathlib.Nat.{not-suc-le-zero, min-eq-right, mul-le-mul-right, mul-assoc, pow-succ', pow-le-pow-right, le-trans}
 use lib.ListN.{length, replicate, length-append, length-replicate}
-use lib.Dec.{lit<}
-use Rattle.model.proofs.Bools.{and-in, and-l, and-r}
-use Rattle.recording.specs.declared.Value.{Value}
 use Rattle.recording.specs.Words.{all}
-use Rattle.recording.specs.Values.{Bit, b0, b1, bx, bz, isDefinite, bitNumber, filler, numeral, extended, value, unknown, valueOf}
-use Rattle.recording.specs.Statements.{Extension, ExtensionValue}
+use Rattle.recording.specs.Values.{Bit, b0, b1, bx, bz, isDefinite, bitNumber, numeral, extended, value, unknown, valueOf}
+use Rattle.readings.proofs.Lists.{all-in, all-out}
+use Rattle.recording.specs.Statements.{ExtensionValue}
 
 -- ---- the fill changes nothing of the value
 
@@ -70,14 +68,6 @@ definite b1 h = refl
 definite bx h = absurd (h .0 refl)
 definite bz h = absurd (h .1 refl)
 
-all-out : (bs : List Bit) → all isDefinite bs ≡ true → (b : Bit) → List·Memᴰ b bs → isDefinite b ≡ true
-all-out (c ∷ cs) e b (here p) = ap isDefinite p ∙ and-l (isDefinite c) (all isDefinite cs) e
-all-out (c ∷ cs) e b (there m) = all-out cs (and-r (isDefinite c) (all isDefinite cs) e) b m
-
-all-in : (bs : List Bit) → ((b : Bit) → List·Memᴰ b bs → isDefinite b ≡ true) → all isDefinite bs ≡ true
-all-in [] h = refl
-all-in (c ∷ cs) h = and-in (h c (here refl)) (all-in cs (λ b m. h b (there m)))
-
 -- ---- numbers of at most 16 bits are below 65,536
 
 bit-le : (b : Bit) → bitNumber b ≤ 1
@@ -111,8 +101,8 @@ extension-value width (b ∷ bs) some-bit fits =
       long = extended-long width b bs fits;
       same = extended-value width b bs;
       known = (
-        (λ e c m. no-xz c (all-out (b ∷ bs) (sym (known-definite (b ∷ bs)) ∙ e) c m)),
-        (λ h. known-definite (b ∷ bs) ∙ all-in (b ∷ bs) (λ c m. definite c (h c m))),
+        (λ e c m. no-xz c (all-out isDefinite (b ∷ bs) (sym (known-definite (b ∷ bs)) ∙ e) c m)),
+        (λ h. known-definite (b ∷ bs) ∙ all-in isDefinite (b ∷ bs) (λ c m. definite c (h c m))),
       );
       number = held-number (b ∷ bs);
     }

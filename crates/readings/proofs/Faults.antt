@@ -5,7 +5,7 @@
 use Prim.Native.Nat.{ℕ, suc, min}
 use mathlib.Core.Path.{_≡_, refl, ap, _∙_}
 use mathlib.Core.Option.{Option, none, some}
-use mathlib.Core.List.{List, [], _∷_, tail}
+use mathlib.Core.List.{[], _∷_, tail}
 use mathlib.Core.Bool.{Bool, true, false, not, _&&_, _||_, cond}
 use lib.ListN.{getD}
 use lib.Dec.{leb, eqb}
@@ -23,7 +23,7 @@ use Rattle.recording.specs.Records.{variable, at, withWidth, withCode, withVect
 use Rattle.recording.specs.Declarations.{signalOf, allDeclared, declares}
 use Rattle.recording.specs.Stamps.{maxCommands, level, isHigh, rises, isReadable, strobeOf, endStamp, endOpenStamp}
 use Rattle.recording.specs.Reading.{isBody, isGood, outOfPlace, isSkipped, readDefinition, readWidth, readCode, readName, isVector, isScalar, readChange, vectorSignal, readVectorCode, startsTime, isTime, timeOf, isLater, openStamp, andThen, readTime, isDump, readBody, readBlock, readAt, readWord, ending, finish}
-use Rattle.recording.specs.Faults.{endsStamp, unclear, excessive, takesVector, isChange, fitsIn, isDeclared, declaresWell, isLate, faultAt, faultAtEnd, takenAt}
+use Rattle.recording.specs.Faults.{unclear, excessive, takesVector, isChange, fitsIn, isDeclared, declaresWell, faultAt, faultAtEnd, takenAt}
 use Rattle.recording.specs.Statements.{FaultsExact, StrobesExact}
 
 -- ---- the end of a stamp
@@ -100,20 +100,20 @@ endOpenStamp-strobe n r =
     ended-strobe (r .stamp .opened) (unclear r) (excessive r) (rises r) (refused 13 n r) (refused 19 n r) (withUp (isHigh r) r) r
     (withTaken (suc (r .taken)) (withUp true r)) (strobeOf r)
 
+-- a property of the reader after the end of a stamp, from the five ways in which a stamp can end
+pub by-stamp : (P : Reader → Type 0) (n : ℕ) (r : Reader) → P (refused 13 n r) → P (refused 19 n r) → P (withTaken (suc (r .taken)) (withUp true r)) → P (withUp (isHigh r) r) → P r → P ((endOpenStamp n r) .reader)
+by-stamp P n r pa pb pt pu pi =
+    rw endOpenStamp-ended
+    (by-ends (λ (a : Read). P (a .reader)) (r .stamp .opened && unclear r) (r .stamp .opened && excessive r)
+    (r .stamp .opened && rises r) (r .stamp .opened) (only (refused 13 n r)) (only (refused 19 n r))
+    (readWith (withTaken (suc (r .taken)) (withUp true r)) (strobeOf r)) (only (withUp (isHigh r) r)) (only r) pa pb pt pu pi)
+
 -- the open stamp's time is still there, for the next to be compared with
 later-kept : (n : ℕ) (r : Reader) (t : ℕ) → isLater ((endOpenStamp n r) .reader) t ≡ isLater r t
-later-kept n r t =
-    rw endOpenStamp-ended
-    (by-ends (λ (a : Read). isLater (a .reader) t ≡ isLater r t) (r .stamp .opened && unclear r) (r .stamp .opened && excessive r)
-    (r .stamp .opened && rises r) (r .stamp .opened) (only (refused 13 n r)) (only (refused 19 n r))
-    (readWith (withTaken (suc (r .taken)) (withUp true r)) (strobeOf r)) (only (withUp (isHigh r) r)) (only r) refl refl refl refl refl)
+later-kept n r t = by-stamp (λ (x : Reader). isLater x t ≡ isLater r t) n r refl refl refl refl refl
 
 place-kept : (n : ℕ) (r : Reader) → (endOpenStamp n r) .reader .place ≡ r .place
-place-kept n r =
-    rw endOpenStamp-ended
-    (by-ends (λ (a : Read). a .reader .place ≡ r .place) (r .stamp .opened && unclear r) (r .stamp .opened && excessive r)
-    (r .stamp .opened && rises r) (r .stamp .opened) (only (refused 13 n r)) (only (refused 19 n r))
-    (readWith (withTaken (suc (r .taken)) (withUp true r)) (strobeOf r)) (only (withUp (isHigh r) r)) (only r) refl refl refl refl refl)
+place-kept n r = by-stamp (λ (x : Reader). x .place ≡ r .place) n r refl refl refl refl refl
 
 -- ---- what goes on after it
 

@@ -11,10 +11,10 @@ use Rattle.model.proofs.Bools.{Flag, on, off, flag}
 use Rattle.recording.specs.declared.Fault.{Fault}
 use Rattle.recording.specs.declared.Reader.{Reader}
 use Rattle.recording.specs.declared.Read.{Read}
-use Rattle.recording.specs.Words.{separator, Word, cut, words}
+use Rattle.recording.specs.Words.{Word, cut, words}
 use Rattle.recording.specs.Records.{start, faultWith, only}
 use Rattle.recording.specs.Stamps.{commandsOf}
-use Rattle.recording.specs.Reading.{isBody, isGood, readWord, finish, Progress, progress, advance, readWords, finished, Reading, answered, reading}
+use Rattle.recording.specs.Reading.{isBody, isGood, readWord, finish, Progress, progress, advance, readWords, finished, answered, reading}
 use Rattle.recording.specs.Faults.{endsStamp, unclear, excessive, fitsIn, declaresWell, isLate, faultAt, faultAtEnd}
 use Rattle.recording.specs.Texts.{says}
 use Rattle.recording.specs.Statements.{upTo, FaultIsFinal, Shown, at-word, at-end, FaultsShown}
@@ -35,14 +35,14 @@ advance-only : (p : Progress) → advance (p .commands) (only (p .reader)) ≡ p
 unfolding advance commandsOf
 advance-only p = ap (progress (p .reader)) (append-nil (p .commands))
 
-bad-words : (p : Progress) (ws : List Word) → isGood (p .reader) ≡ false → readWords p ws ≡ p
+pub bad-words : (p : Progress) (ws : List Word) → isGood (p .reader) ≡ false → readWords p ws ≡ p
 unfolding readWords
 bad-words p [] bad = refl
 bad-words p (w ∷ ws) bad =
     ap (λ (a : Read). readWords (advance (p .commands) a) ws) (bad-word (p .reader) w bad) ∙
     ap (λ (q : Progress). readWords q ws) (advance-only p) ∙ bad-words p ws bad
 
-bad-finished : (n : ℕ) (p : Progress) → isGood (p .reader) ≡ false → finished n p ≡ p
+pub bad-finished : (n : ℕ) (p : Progress) → isGood (p .reader) ≡ false → finished n p ≡ p
 unfolding finished
 bad-finished n p bad = ap (advance (p .commands)) (bad-finish n (p .reader) bad) ∙ advance-only p
 

@@ -4,17 +4,16 @@
 --   complete  each such run from o on is cut
 use Prim.Native.Nat.{ℕ, zero, suc, _+_, _-_, _<_, _≤_}
 use mathlib.Core.Path.{_≡_, refl, sym, ap, _∙_}
-use mathlib.Core.Logic.{_↔_}
 use mathlib.Core.List.{List, [], _∷_, _++_, List·Memᴰ, List·Memᴰ·head as here, List·Memᴰ·tail as there, List·Memᴰ·not-nil}
 use mathlib.Core.Bool.{Bool, true, false, cond}
 use native.Mathlib.Omega.{arith}
 use native.Mathlib.Nat.{not-suc-le-zero, le-of-suc-le-suc}
-use lib.ListN.{length, getD, length-append, List·getD-append}
-use lib.Seq.{getD-append-seam, ext-getD}
+use lib.ListN.{length, getD, length-append}
+use lib.Seq.{ext-getD}
 use lib.Dec.{ltb}
 use borrow.Author.Tests.{ltb-true, ltb-false}
 use Rattle.model.proofs.Bools.{clash, Flag, on, off, flag}
-use Rattle.recording.specs.Words.{separator, Word, wordAt, closed, cut, words}
+use Rattle.recording.specs.Words.{separator, Word, wordAt, closed, cut}
 use Rattle.recording.specs.Statements.{Run, Rising, none, one, more, WordsExact}
 
 -- ---- a word that ends

@@ -6,6 +6,7 @@
 --   Stamps        the end of a stamp: the command that is taken, faults 13 and 19
 --   Reading       what each word does at its place, the end of the text, and the whole reading
 --   Faults        when each fault is shown, number by number, and their order
+--   Grammar       the grammar as derivations, beside the reading
 --   Texts         worked texts, with what each of them says
 --   Statements    what is claimed of all this, as propositions; their proofs are in the crate above this one
 pub mod Words
@@ -15,5 +16,6 @@ pub mod Declarations
 pub mod Stamps
 pub mod Reading
 pub mod Faults
+pub mod Grammar
 pub mod Texts
 pub mod Statements

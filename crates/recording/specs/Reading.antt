@@ -7,7 +7,7 @@
 use Prim.Native.Nat.{ℕ, _-_, _^_, min}
 use Prim.Native.String.{String}
 use mathlib.Core.Option.{Option, none, some}
-use mathlib.Core.List.{List, [], _∷_, _++_, map, tail}
+use mathlib.Core.List.{List, [], _∷_, _++_, tail}
 use mathlib.Core.Bool.{Bool, true, false, not, _&&_, _||_, cond}
 use lib.ListN.{length, getD}
 use lib.Dec.{ltb, leb, eqb}

@@ -5,7 +5,7 @@
 --   endStamp at r        the end of the open stamp, shown at an offset: 13, then 19, then perhaps a command
 --   endOpenStamp at r    the same if a time was read; a text without a time has no stamp
 use Prim.Native.Nat.{ℕ, suc}
-use mathlib.Core.Bool.{Bool, true, false, not, _&&_, _||_, cond}
+use mathlib.Core.Bool.{Bool, true, not, _&&_, _||_, cond}
 use mathlib.Core.List.{List, [], _∷_}
 use lib.Dec.{leb, eqb}
 use Rattle.model.specs.declared.Command.{Command}

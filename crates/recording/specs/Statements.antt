@@ -4,14 +4,15 @@ use Prim.Native.Nat.{ℕ, suc, _+_, _<_, _≤_}
 use mathlib.Core.Path.{_≡_}
 use mathlib.Core.Logic.{_↔_, _≢_}
 use mathlib.Core.List.{List, [], _∷_, _++_, map, List·Memᴰ}
-use mathlib.Core.Bool.{Bool, true, false}
+use mathlib.Core.Bool.{true, false}
 use lib.ListN.{length, getD}
 use Rattle.recording.specs.declared.Reader.{Reader}
 use Rattle.recording.specs.Words.{separator, Word, words}
-use Rattle.recording.specs.Values.{Bit, bx, bz, bitOf, bitNumber, numeral, extended, valueOf, vectorOf}
+use Rattle.recording.specs.Values.{Bit, bx, bz, bitNumber, numeral, extended, valueOf}
 use Rattle.recording.specs.Records.{start}
 use Rattle.recording.specs.Reading.{isGood, readWord, finish, Progress, progress, readWords, reading}
 use Rattle.recording.specs.Faults.{endsStamp, faultAt, faultAtEnd, takenAt}
+use Rattle.recording.specs.Grammar.{Definitions}
 use Rattle.recording.specs.Texts.{says}
 
 -- ---- words
@@ -87,3 +88,12 @@ FaultsShown =
 
 abbrev pub AtMost65535 : Type 0
 AtMost65535 = (t : List ℕ) → length ((reading t) .commands) ≤ 65535
+
+-- ---- the grammar
+
+-- A text read without a fault is derived by the grammar, and a derived text shows neither 11 nor 12. Of what follows a 13, 14 or 19
+-- nothing is said: the reading ended there.
+abbrev pub GrammarExact : Type 0
+GrammarExact =
+    (t : List ℕ) →
+    ((reading t) .number ≡ 0 → Definitions [] (words t)) × (Definitions [] (words t) → ((reading t) .number ≢ 11) × ((reading t) .number ≢ 12))
