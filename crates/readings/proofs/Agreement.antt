@@ -96,7 +96,8 @@ agrees-kept vs vs′ ds k a =
       codes = a .codes;
     }
 
-read-kept : (f : Variable → ℕ) (vs : Variables) (s s′ : Signal) (v : Variable) → f v ≡ f (variableOf vs s) → f (variableOf (withVariableOf vs s v) s′) ≡ f (variableOf vs s′)
+read-kept : (f : Variable → ℕ) (vs : Variables) (s s′ : Signal) (v : Variable) → f v ≡ f (variableOf vs s) →
+    f (variableOf (withVariableOf vs s v) s′) ≡ f (variableOf vs s′)
 read-kept f vs s s′ v e = go (compare s s′)
   where
     go : Compared s s′ → f (variableOf (withVariableOf vs s v) s′) ≡ f (variableOf vs s′)
@@ -106,8 +107,10 @@ read-kept f vs s s′ v e = go (compare s s′)
 pub value-kinds : (r : Reader) (s : Signal) (v : Value) → SameKinds (r .variables) ((withValue s v r) .variables)
 value-kinds r s v =
     record {
-      code = λ s′. read-kept (λ (x : Variable). x .code) (r .variables) s s′ (variableWith ((variable r s) .code) ((variable r s) .width) v) refl;
-      width = λ s′. read-kept (λ (x : Variable). x .width) (r .variables) s s′ (variableWith ((variable r s) .code) ((variable r s) .width) v) refl;
+      code = λ s′. read-kept (λ (x : Variable). x .code) (r .variables) s s′
+          (variableWith ((variable r s) .code) ((variable r s) .width) v) refl;
+      width = λ s′. read-kept (λ (x : Variable). x .width) (r .variables) s s′
+          (variableWith ((variable r s) .code) ((variable r s) .width) v) refl;
     }
 
 -- ---- after a declaration
@@ -177,7 +180,8 @@ module _ (r : Reader) (s : Signal) (d : Declaration) (p : Pends r s d) where
         unused =
             λ s′ q.
             eqb-false ((variable r s′) .code) (r .pending .code)
-            (none-out (λ (x : Signal). eqb ((variable r x) .code) (r .pending .code)) signals (not-true _ (and-r (not (declared r s) && any (fits r s (r .pending .width)) forms) _ e)) s′ (every-signal s′))
+            (none-out (λ (x : Signal). eqb ((variable r x) .code) (r .pending .code)) signals
+            (not-true _ (and-r (not (declared r s) && any (fits r s (r .pending .width)) forms) _ e)) s′ (every-signal s′))
             (q ∙ p .code);
       }
 
@@ -200,7 +204,8 @@ module _ (r : Reader) (s : Signal) (d : Declaration) (p : Pends r s d) where
 pub known-declared : (vs : Variables) (d : Declaration) (x : Known vs d) → 0 < (variableOf vs (x .signal)) .code
 known-declared vs d x = rw (x .code) (code-positive (d .code) (x .coded))
 
-module _ (r : Reader) (ds : List Declaration) (s : Signal) (d : Declaration) (p : Pends r s d) (q : Right r s d) (a : Agrees (r .variables) ds) where
+module _ (r : Reader) (ds : List Declaration) (s : Signal) (d : Declaration) (p : Pends r s d) (q : Right r s d)
+    (a : Agrees (r .variables) ds) where
   v : Variable
   v = variableWith (r .pending .code) (r .pending .width) ((variable r s) .value)
 
@@ -310,7 +315,8 @@ pub record Declares (r : Reader) (ds : List Declaration) (s : Signal) : Type 0 w
   pub code : (variable r s) .code ≡ codeOf (declaration .code)
   pub width : (variable r s) .width ≡ declaration .width
 
-pub declaration-of : (r : Reader) (ds : List Declaration) (s : Signal) → Agrees (r .variables) ds → 0 < (variable r s) .code → Declares r ds s
+pub declaration-of : (r : Reader) (ds : List Declaration) (s : Signal) → Agrees (r .variables) ds → 0 < (variable r s) .code →
+    Declares r ds s
 declaration-of r ds s a h =
     let e : (d : Declaration) × List·Memᴰ d ds × (d .name ≡ nameOf s) = a .held s h in
     let x : Known (r .variables) (e .0) = a .known (e .0) (e .1) in
@@ -325,7 +331,8 @@ declaration-of r ds s a h =
     }
 
 -- a word that the reader takes for the code of s is the code of its declaration
-pub code-of : (r : Reader) (ds : List Declaration) (s : Signal) (c : List ℕ) → Agrees (r .variables) ds → hasCode r c s ≡ true → (x : Declares r ds s) × (c ≡ x .declaration .code)
+pub code-of : (r : Reader) (ds : List Declaration) (s : Signal) (c : List ℕ) → Agrees (r .variables) ds → hasCode r c s ≡ true →
+    (x : Declares r ds s) × (c ≡ x .declaration .code)
 code-of r ds s c a e =
     let h : 0 < (variable r s) .code = ltb-true 0 ((variable r s) .code) (and-l (declared r s) _ e) in
     let k : (variable r s) .code ≡ codeOf c = eqb-true ((variable r s) .code) (codeOf c) (and-r (declared r s) _ e) in

@@ -60,7 +60,8 @@ digits-rest : (x : ℕ) (xs : List ℕ) → Digits (x ∷ xs) → Digits xs
 digits-rest x xs h = and-r (between 33 126 x) (all (between 33 126) xs) h
 
 -- numerals of one length
-same-numeral : (xs ys : List ℕ) (u v : ℕ) → length xs ≡ length ys → Digits xs → Digits ys → numeral 256 u xs ≡ numeral 256 v ys → (u ≡ v) × (xs ≡ ys)
+same-numeral : (xs ys : List ℕ) (u v : ℕ) → length xs ≡ length ys → Digits xs → Digits ys → numeral 256 u xs ≡ numeral 256 v ys →
+    (u ≡ v) × (xs ≡ ys)
 same-numeral [] [] u v l h k e = (e, refl)
 same-numeral [] (y ∷ ys) u v l h k e = absurd (omega (arith, l))
 same-numeral (x ∷ xs) [] u v l h k e = absurd (omega (arith, l))
@@ -71,11 +72,13 @@ same-numeral (x ∷ xs) (y ∷ ys) u v l h k e =
     (omega (arith, p .0, digit-range x xs h, digit-range y ys k), λ i. q i ∷ p .1 i)
 
 -- what is longer spells more
-longer-numeral : (xs ys : List ℕ) (v : ℕ) → length xs ≤ length ys → 0 < v → Digits xs → Digits ys → numeral 256 0 xs ≡ numeral 256 v ys → ⊥
+longer-numeral : (xs ys : List ℕ) (v : ℕ) → length xs ≤ length ys → 0 < v → Digits xs → Digits ys →
+    numeral 256 0 xs ≡ numeral 256 v ys → ⊥
 longer-numeral xs [] v l p h k e = omega (arith, (same-numeral xs [] 0 v (omega (arith, l)) h k e) .0)
 longer-numeral xs (y ∷ ys) v l p h k e = go (flag (ltb (length xs) (suc (length ys)))) (longer-numeral xs ys (256 * v + y))
   where
-    go : Flag (ltb (length xs) (suc (length ys))) → (length xs ≤ length ys → 0 < 256 * v + y → Digits xs → Digits ys → numeral 256 0 xs ≡ numeral 256 (256 * v + y) ys → ⊥) → ⊥
+    go : Flag (ltb (length xs) (suc (length ys))) →
+        (length xs ≤ length ys → 0 < 256 * v + y → Digits xs → Digits ys → numeral 256 0 xs ≡ numeral 256 (256 * v + y) ys → ⊥) → ⊥
     go (on f) next = next (omega (arith, ltb-true (length xs) (suc (length ys)) f)) (omega arith) h (digits-rest y ys k) e
     go (off f) next =
         omega (arith, (same-numeral xs (y ∷ ys) 0 v (omega (arith, ltb-false (length xs) (suc (length ys)) f)) h k e) .0)
@@ -103,7 +106,8 @@ code-injective a b h k e = go (flag (ltb (length a) (length b))) (flag (ltb (len
     go (on f) g = absurd (not-longer a b (ltb-true (length a) (length b) f) (code-digits a h) (code-digits b k) n)
     go (off f) (on g) = absurd (not-longer b a (ltb-true (length b) (length a) g) (code-digits b k) (code-digits a h) (sym n))
     go (off f) (off g) =
-        (same-numeral a b 0 0 (omega (arith, ltb-false (length a) (length b) f, ltb-false (length b) (length a) g)) (code-digits a h) (code-digits b k) n) .1
+        (same-numeral a b 0 0 (omega (arith, ltb-false (length a) (length b) f, ltb-false (length b) (length a) g)) (code-digits a h)
+        (code-digits b k) n) .1
 
 -- digits only raise a numeral
 numeral-le : (v : ℕ) (xs : List ℕ) → v ≤ numeral 256 v xs

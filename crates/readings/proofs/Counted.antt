@@ -30,7 +30,8 @@ keeps false x y n e e′ = e′
 
 module _ (r : Reader) (w : Word) where
   definition-keeps : (s v e d : Bool) →
-      (cond s (at SkipDefinition r) (cond v (at Wire r) (cond e (outOfPlace w r) (cond d (at DefinitionsEnd r) (refused 12 (w .at) r))))) .taken ≡ r .taken
+      (cond s (at SkipDefinition r) (cond v (at Wire r) (cond e (outOfPlace w r)
+      (cond d (at DefinitionsEnd r) (refused 12 (w .at) r))))) .taken ≡ r .taken
   definition-keeps true v e d = refl
   definition-keeps false true e d = refl
   definition-keeps false false true d = refl
@@ -45,7 +46,8 @@ module _ (r : Reader) (w : Word) where
   change-keeps : (p q : Place) → (readChange p q r w) .taken ≡ r .taken
   unfolding readChange
   change-keeps p q =
-      keeps (isVector (w .bytes)) (at q (withVector (vectorOf (tail (w .bytes))) r)) (cond (isScalar r (w .bytes)) scalar (outOfPlace w r)) (r .taken) refl
+      keeps (isVector (w .bytes)) (at q (withVector (vectorOf (tail (w .bytes))) r))
+      (cond (isScalar r (w .bytes)) scalar (outOfPlace w r)) (r .taken) refl
       (keeps (isScalar r (w .bytes)) scalar (outOfPlace w r) (r .taken) refl refl)
     where
       scalar : Reader
@@ -55,7 +57,8 @@ module _ (r : Reader) (w : Word) where
   unfolding readVectorCode
   code-keeps p none = refl
   code-keeps p (some s) =
-      keeps (leb (r .pending .vector .length) ((variable r s) .width)) (at p (withValue s (r .pending .vector .value) r)) (outOfPlace w r) (r .taken) refl refl
+      keeps (leb (r .pending .vector .length) ((variable r s) .width)) (at p (withValue s (r .pending .vector .value) r))
+      (outOfPlace w r) (r .taken) refl refl
 
   time-keeps : (openStamp r w) .taken ≡ r .taken
   unfolding openStamp
@@ -76,7 +79,8 @@ only-counts : (r x : Reader) → x .taken ≡ r .taken → Counts r (only x)
 unfolding commandsOf
 only-counts r x e = record { given = omega arith; bounded = λ h. omega arith }
 
-strobe-counts : (r : Reader) → leb maxCommands (r .taken) ≡ false → Counts r (readWith (withTaken (suc (r .taken)) (withUp true r)) (strobeOf r))
+strobe-counts : (r : Reader) → leb maxCommands (r .taken) ≡ false →
+    Counts r (readWith (withTaken (suc (r .taken)) (withUp true r)) (strobeOf r))
 unfolding commandsOf strobeOf
 strobe-counts r e = record { given = omega arith; bounded = λ h. omega (arith, leb-false maxCommands (r .taken) e) }
 
@@ -89,7 +93,8 @@ endStamp-counts n r = go ((level r) .known) (rises r) (isReadable r) (leb maxCom
 
     go : (k v d x : Bool) → leb maxCommands (r .taken) ≡ x →
         Counts r
-        (cond (not k) (only (refused 13 n r)) (cond (not v) (only (withUp (isHigh r) r)) (cond (not d) (only (refused 13 n r)) (cond x (only (refused 19 n r)) taken))))
+        (cond (not k) (only (refused 13 n r)) (cond (not v) (only (withUp (isHigh r) r))
+        (cond (not d) (only (refused 13 n r)) (cond x (only (refused 19 n r)) taken))))
     go false v d x e = only-counts r (refused 13 n r) refl
     go true false d x e = only-counts r (withUp (isHigh r) r) refl
     go true true false x e = only-counts r (refused 13 n r) refl
@@ -104,7 +109,8 @@ endOpenStamp-counts n r = go (r .stamp .opened)
     go true = endStamp-counts n r
     go false = only-counts r r refl
 
-then-counts : (r : Reader) (a : Read) (f : Reader → Reader) → (f (a .reader)) .taken ≡ a .reader .taken → Counts r a → Counts r (andThen a f)
+then-counts : (r : Reader) (a : Read) (f : Reader → Reader) → (f (a .reader)) .taken ≡ a .reader .taken → Counts r a →
+    Counts r (andThen a f)
 unfolding andThen
 then-counts r a f e c = go (isGood (a .reader))
   where
@@ -131,7 +137,8 @@ module _ (r : Reader) (w : Word) where
   readAt-counts SkipDefinition = only-counts r _ (keeps (isText "$end" (w .bytes)) (at Definition r) r (r .taken) refl refl)
   readAt-counts Wire = only-counts r _ (keeps (isText "wire" (w .bytes)) (at Width r) (outOfPlace w r) (r .taken) refl refl)
   readAt-counts Width =
-      only-counts r _ (keeps (isDecimal (w .bytes)) (at Code (withWidth (min 255 (decimal (w .bytes))) r)) (outOfPlace w r) (r .taken) refl refl)
+      only-counts r _ (keeps (isDecimal (w .bytes)) (at Code (withWidth (min 255 (decimal (w .bytes))) r)) (outOfPlace w r) (r .taken)
+      refl refl)
   readAt-counts Code =
       only-counts r _ (keeps (isCode (w .bytes)) (at Name (withCode (codeOf (w .bytes)) r)) (outOfPlace w r) (r .taken) refl refl)
   readAt-counts Name = only-counts r _ (name-keeps r w (signalOf (w .bytes)))
@@ -141,7 +148,8 @@ module _ (r : Reader) (w : Word) where
   readAt-counts SkipBody = only-counts r _ (keeps (isText "$end" (w .bytes)) (at Body r) r (r .taken) refl refl)
   readAt-counts BodyCode = only-counts r _ (code-keeps r w Body (vectorSignal r (w .bytes)))
   readAt-counts Block =
-      only-counts r _ (keeps (isText "$end" (w .bytes)) (at Body r) (readChange Block BlockCode r w) (r .taken) refl (change-keeps r w Block BlockCode))
+      only-counts r _ (keeps (isText "$end" (w .bytes)) (at Body r) (readChange Block BlockCode r w) (r .taken) refl
+      (change-keeps r w Block BlockCode))
   readAt-counts BlockCode = only-counts r _ (code-keeps r w Block (vectorSignal r (w .bytes)))
 
   readWord-counts : Counts r (readWord r w)
@@ -184,7 +192,8 @@ words-counted : (p : Progress) (ws : List Word) → Counted p → Counted (readW
 unfolding readWords
 words-counted p [] c = c
 words-counted p (w ∷ ws) c =
-    words-counted (advance (p .commands) (readWord (p .reader) w)) ws (advance-counted p (readWord (p .reader) w) c (readWord-counts (p .reader) w))
+    words-counted (advance (p .commands) (readWord (p .reader) w)) ws
+    (advance-counted p (readWord (p .reader) w) c (readWord-counts (p .reader) w))
 
 pub at-most-65535 : AtMost65535
 unfolding reading answered finished

@@ -14,14 +14,17 @@ closed-joined : (end : ℕ) (w : List ℕ) (xs ys : List Word) → closed end w 
 closed-joined end [] xs ys = refl
 closed-joined end (b ∷ bs) xs ys = refl
 
-pub cut-joined : (at : ℕ) (w t u : List ℕ) (b : ℕ) → separator b ≡ true → cut at w (t ++ (b ∷ u)) ≡ cut at w t ++ cut (suc (at + length t)) [] u
+pub cut-joined : (at : ℕ) (w t u : List ℕ) (b : ℕ) → separator b ≡ true →
+    cut at w (t ++ (b ∷ u)) ≡ cut at w t ++ cut (suc (at + length t)) [] u
 unfolding cut
-cut-joined at w [] u b s = rw s (ap (λ (n : ℕ). closed at w (cut (suc n) [] u)) (omega arith) ∙ closed-joined at w [] (cut (suc (at + 0)) [] u))
+cut-joined at w [] u b s = rw s (ap (λ (n : ℕ). closed at w (cut (suc n) [] u)) (omega arith) ∙ closed-joined at w []
+    (cut (suc (at + 0)) [] u))
 cut-joined at w (c ∷ t) u b s =
     go (separator c) (cut-joined (suc at) [] t u b s ∙ shifted [])
     (cut-joined (suc at) (w ++ (c ∷ [])) t u b s ∙ shifted (w ++ (c ∷ [])))
   where
-    shifted : (v : List ℕ) → cut (suc at) v t ++ cut (suc (suc at + length t)) [] u ≡ cut (suc at) v t ++ cut (suc (at + suc (length t))) [] u
+    shifted : (v : List ℕ) →
+        cut (suc at) v t ++ cut (suc (suc at + length t)) [] u ≡ cut (suc at) v t ++ cut (suc (at + suc (length t))) [] u
     shifted v = ap (λ (n : ℕ). cut (suc at) v t ++ cut (suc n) [] u) (omega arith)
 
     go : (x : Bool) → cut (suc at) [] (t ++ (b ∷ u)) ≡ cut (suc at) [] t ++ cut (suc (at + suc (length t))) [] u →

@@ -91,9 +91,11 @@ in-block c (changes-then cs x) = changes-then (Changes.change c cs) x
 
 module _ (r : Reader) (w : Word) (ws : List Word) (ds : List Declaration) (a : Agrees (r .variables) ds) where
   -- a definition: something to skip, a declaration, or the end
-  definition-step : (x : Reader) (s v e d : Bool) → isSkipped (w .bytes) ≡ s → isText "$var" (w .bytes) ≡ v → isText "$enddefinitions" (w .bytes) ≡ e → allDeclared r ≡ d →
+  definition-step : (x : Reader) (s v e d : Bool) → isSkipped (w .bytes) ≡ s → isText "$var" (w .bytes) ≡ v →
+      isText "$enddefinitions" (w .bytes) ≡ e → allDeclared r ≡ d →
       s || v || e ≡ true → s || v || d ≡ true →
-      Next ws (cond s (at SkipDefinition r) (cond v (at Wire r) (cond (not e) (outOfPlace w r) (cond d (at DefinitionsEnd r) x)))) → Definitions ds (w ∷ ws)
+      Next ws (cond s (at SkipDefinition r) (cond v (at Wire r) (cond (not e) (outOfPlace w r) (cond d (at DefinitionsEnd r) x)))) →
+      Definitions ds (w ∷ ws)
   unfolding Next Rest
   definition-step x true v e d ps pv pe pd f g next = go (next ds a)
     where
@@ -112,7 +114,8 @@ module _ (r : Reader) (w : Word) (ws : List Word) (ds : List Declaration) (a : A
   unfolding Next Rest readName
   name-step none e f next v i x c pv pi px pc = absurd (true≢false (sym f))
   name-step (some s) e f next v i x c pv pi px pc =
-      close ws (subst (Next ws) (ap (λ (b : Bool). cond b (at VarEnd (declaring s r)) (refused 12 (w .at) r)) f) next (d ∷ ds) (agrees-declared r ds s d pends (declares-out r s d pends f) a))
+      close ws (subst (Next ws) (ap (λ (b : Bool). cond b (at VarEnd (declaring s r)) (refused 12 (w .at) r)) f) next (d ∷ ds)
+      (agrees-declared r ds s d pends (declares-out r s d pends f) a))
     where
       d : Declaration
       d = declaration (w .bytes) (decimal (x .bytes)) (c .bytes)
@@ -137,7 +140,8 @@ module _ (r : Reader) (w : Word) (ws : List Word) (ds : List Declaration) (a : A
       go [] p h = absurd (true≢false (sym h))
       go (b ∷ bs) p h =
           let x : (x : Declares r ds Stb) × (bs ≡ x .declaration .code) = code-of r ds Stb bs a (and-r (isBit b) (hasCode r bs Stb) h) in
-          scalar (x .0 .declaration) b (x .0 .listed) (x .0 .named) (and-l (isBit b) (hasCode r bs Stb) h) (p ∙ ap (λ (l : List ℕ). b ∷ l) (x .1))
+          scalar (x .0 .declaration) b (x .0 .listed) (x .0 .named) (and-l (isBit b) (hasCode r bs Stb) h)
+          (p ∙ ap (λ (l : List ℕ). b ∷ l) (x .1))
 
 -- ---- the code of a vector
 
@@ -178,15 +182,18 @@ module _ (r : Reader) (c : Word) (ws : List Word) (ds : List Declaration) (a : A
 module _ (r : Reader) (w : Word) (ws : List Word) (ds : List Declaration) (a : Agrees (r .variables) ds) where
   -- a change, in a place `p` to which the next word returns, or `q` for a code
   change-step : (p q : Place) (T : List Word → Type 0) → (Change ds (w ∷ ws) ws → T ws → T (w ∷ ws)) →
-      ((x : Reader) → Agrees (x .variables) ds → Next ws (at p x) → T ws) → ((x : Reader) → Agrees (x .variables) ds → Next ws (at q x) → Vectored (at q x) w → T (w ∷ ws)) →
+      ((x : Reader) → Agrees (x .variables) ds → Next ws (at p x) → T ws) →
+      ((x : Reader) → Agrees (x .variables) ds → Next ws (at q x) → Vectored (at q x) w → T (w ∷ ws)) →
       (v s : Bool) → isVector (w .bytes) ≡ v → isScalar r (w .bytes) ≡ s → v || s ≡ true →
-      Next ws (cond v (at q (withVector (vectorOf (tail (w .bytes))) r)) (cond s (at p (withValue Stb (valueOf (bitOf (getD (w .bytes) 0 0) ∷ [])) r)) (outOfPlace w r))) → T (w ∷ ws)
+      Next ws (cond v (at q (withVector (vectorOf (tail (w .bytes))) r))
+      (cond s (at p (withValue Stb (valueOf (bitOf (getD (w .bytes) 0 0) ∷ [])) r)) (outOfPlace w r))) → T (w ∷ ws)
   unfolding vectorOf
   change-step p q T add plain coded true s ev es e next =
       coded (withVector (vectorOf (tail (w .bytes))) r) a next (record { is-vector = ev; held = refl })
   change-step p q T add plain coded false true ev es e next =
       add (scalar-step r w ws ds a es)
-      (plain (withValue Stb (valueOf (bitOf (getD (w .bytes) 0 0) ∷ [])) r) (agrees-kept (r .variables) _ ds (value-kinds r Stb (valueOf (bitOf (getD (w .bytes) 0 0) ∷ []))) a) next)
+      (plain (withValue Stb (valueOf (bitOf (getD (w .bytes) 0 0) ∷ [])) r)
+      (agrees-kept (r .variables) _ ds (value-kinds r Stb (valueOf (bitOf (getD (w .bytes) 0 0) ∷ []))) a) next)
   change-step p q T add plain coded false false ev es e next = absurd (true≢false (sym e))
 
   -- the code of a vector is followed by what follows in its place
@@ -196,7 +203,8 @@ module _ (r : Reader) (w : Word) (ws : List Word) (ds : List Declaration) (a : A
   code-next p T plain none t next = absurd (true≢false (sym t))
   code-next p T plain (some s) t next =
       plain (withValue s (r .pending .vector .value) r) (agrees-kept (r .variables) _ ds (value-kinds r s (r .pending .vector .value)) a)
-      (chosen (leb (r .pending .vector .length) ((variable r s) .width)) (at p (withValue s (r .pending .vector .value) r)) (outOfPlace w r) ws t next)
+      (chosen (leb (r .pending .vector .length) ((variable r s) .width)) (at p (withValue s (r .pending .vector .value) r))
+      (outOfPlace w r) ws t next)
 
   -- a word that is skipped, or the $end of what is skipped
   skip-step : (pl : Place) (T : List Word → Type 0) (b : Bool) → isText "$end" (w .bytes) ≡ b →
@@ -207,11 +215,13 @@ module _ (r : Reader) (w : Word) (ws : List Word) (ds : List Declaration) (a : A
       go : SkipThen T ws → SkipThen T (w ∷ ws)
       go (skip-then s x) = skip-then (Skipped.passes e s) x
 
-  block-step : (b : Bool) → isText "$end" (w .bytes) ≡ b → b || isChange r (w .bytes) ≡ true → Next ws (cond b (at Body r) (readChange Block BlockCode r w)) → ChangesThen ds (w ∷ ws)
+  block-step : (b : Bool) → isText "$end" (w .bytes) ≡ b → b || isChange r (w .bytes) ≡ true →
+      Next ws (cond b (at Body r) (readChange Block BlockCode r w)) → ChangesThen ds (w ∷ ws)
   unfolding readChange Next Rest
   block-step true e f next = changes-then (Changes.ends e) (next ds a)
   block-step false e f next =
-      change-step Block BlockCode (ChangesThen ds) (λ c x. in-block c x) (λ x k n. n ds k) (λ x k n v. n ds k w v) (isVector (w .bytes)) (isScalar r (w .bytes)) refl refl f next
+      change-step Block BlockCode (ChangesThen ds) (λ c x. in-block c x) (λ x k n. n ds k) (λ x k n v. n ds k w v)
+      (isVector (w .bytes)) (isScalar r (w .bytes)) refl refl f next
 
   -- a time leaves place and variables as they are
   time-step : r .place ≡ Body → isTime (w .bytes) ≡ true → Next ws ((readTime r w) .reader) → Items ds (w ∷ ws)
@@ -224,7 +234,8 @@ module _ (r : Reader) (w : Word) (ws : List Word) (ds : List Declaration) (a : A
 
   body-step : r .place ≡ Body → (t c d : Bool) → startsTime (w .bytes) ≡ t → isText "$comment" (w .bytes) ≡ c → isDump (w .bytes) ≡ d →
       cond t (isTime (w .bytes)) (c || d || isChange r (w .bytes)) ≡ true →
-      Next ws ((cond t (readTime r w) (cond c (only (at SkipBody r)) (cond d (only (at Block r)) (only (readChange Body BodyCode r w))))) .reader) → Items ds (w ∷ ws)
+      Next ws ((cond t (readTime r w) (cond c (only (at SkipBody r))
+      (cond d (only (at Block r)) (only (readChange Body BodyCode r w))))) .reader) → Items ds (w ∷ ws)
   unfolding readChange Next Rest
   body-step e true c d et ec ed f next = time-step e f next
   body-step e false true d et ec ed f next = go (next ds a)
@@ -236,14 +247,18 @@ module _ (r : Reader) (w : Word) (ws : List Word) (ds : List Declaration) (a : A
       go : ChangesThen ds ws → Items ds (w ∷ ws)
       go (changes-then c x) = Items.dump ed c x
   body-step e false false false et ec ed f next =
-      change-step Body BodyCode (Items ds) (λ c x. Items.change c x) (λ x k n. n ds k) (λ x k n v. n ds k w v) (isVector (w .bytes)) (isScalar r (w .bytes)) refl refl f next
+      change-step Body BodyCode (Items ds) (λ c x. Items.change c x) (λ x k n. n ds k) (λ x k n v. n ds k w v) (isVector (w .bytes))
+      (isScalar r (w .bytes)) refl refl f next
 
-  place-step : (p : Place) → r .place ≡ p → fitsIn p r (w .bytes) ≡ true → declaresWell p r (w .bytes) ≡ true → Next ws ((readAt p r w) .reader) → Rest p r ds (w ∷ ws)
+  place-step : (p : Place) → r .place ≡ p → fitsIn p r (w .bytes) ≡ true → declaresWell p r (w .bytes) ≡ true →
+      Next ws ((readAt p r w) .reader) → Rest p r ds (w ∷ ws)
   unfolding readAt readDefinition readWidth readCode readBody readBlock fitsIn declaresWell Next Rest
   place-step Definition e f d next =
-      definition-step r w ws ds a (refused 12 (w .at) r) (isSkipped (w .bytes)) (isText "$var" (w .bytes)) (isText "$enddefinitions" (w .bytes)) (allDeclared r) refl refl refl refl f d next
+      definition-step r w ws ds a (refused 12 (w .at) r) (isSkipped (w .bytes)) (isText "$var" (w .bytes))
+      (isText "$enddefinitions" (w .bytes)) (allDeclared r) refl refl refl refl f d next
   place-step SkipDefinition e f d next =
-      skip-step Definition (Definitions ds) (isText "$end" (w .bytes)) refl (λ n. subst (λ (q : Place). Rest q r ds ws) e (n ds a)) (λ n. n ds a) next
+      skip-step Definition (Definitions ds) (isText "$end" (w .bytes)) refl (λ n. subst (λ (q : Place). Rest q r ds ws) e (n ds a))
+      (λ n. n ds a) next
   place-step Wire e f d next = λ v pv. chosen (isText "wire" (w .bytes)) (at Width r) (outOfPlace w r) ws f next ds a v w pv f
   place-step Width e f d next =
       λ v i pv pi.
@@ -288,7 +303,8 @@ at-end r ds BodyCode e = absurd (true≢false (sym e))
 at-end r ds Block e = absurd (true≢false (sym e))
 at-end r ds BlockCode e = absurd (true≢false (sym e))
 
-derived : (n : ℕ) (ws : List Word) (p : Progress) → isGood ((finished n (readWords p ws)) .reader) ≡ true → (ds : List Declaration) → Agrees (p .reader .variables) ds → Rest (p .reader .place) (p .reader) ds ws
+derived : (n : ℕ) (ws : List Word) (p : Progress) → isGood ((finished n (readWords p ws)) .reader) ≡ true → (ds : List Declaration) →
+    Agrees (p .reader .variables) ds → Rest (p .reader .place) (p .reader) ds ws
 unfolding readWords advance finished Next
 derived n [] p g ds a = at-end (p .reader) ds (p .reader .place) (good-finish-body n (p .reader) (good-before n p [] g) g)
 derived n (w ∷ ws) p g ds a =

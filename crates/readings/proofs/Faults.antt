@@ -59,7 +59,8 @@ stampFault n r =
     cond (r .stamp .opened && unclear r) (faultWith 13 n) (cond (r .stamp .opened && excessive r) (faultWith 19 n) (r .fault))
 
 -- a property of the five ways in which a stamp can end
-by-ends : (P : Read → Type 0) (p q s o : Bool) (a b t u i : Read) → P a → P b → P t → P u → P i → P (cond p a (cond q b (cond s t (cond o u i))))
+by-ends : (P : Read → Type 0) (p q s o : Bool) (a b t u i : Read) → P a → P b → P t → P u → P i →
+    P (cond p a (cond q b (cond s t (cond o u i))))
 by-ends P true q s o a b t u i pa pb pt pu pi = pa
 by-ends P false true s o a b t u i pa pb pt pu pi = pb
 by-ends P false false true o a b t u i pa pb pt pu pi = pt
@@ -101,7 +102,8 @@ endOpenStamp-strobe n r =
     (withTaken (suc (r .taken)) (withUp true r)) (strobeOf r)
 
 -- a property of the reader after the end of a stamp, from the five ways in which a stamp can end
-pub by-stamp : (P : Reader → Type 0) (n : ℕ) (r : Reader) → P (refused 13 n r) → P (refused 19 n r) → P (withTaken (suc (r .taken)) (withUp true r)) → P (withUp (isHigh r) r) → P r → P ((endOpenStamp n r) .reader)
+pub by-stamp : (P : Reader → Type 0) (n : ℕ) (r : Reader) → P (refused 13 n r) → P (refused 19 n r) →
+    P (withTaken (suc (r .taken)) (withUp true r)) → P (withUp (isHigh r) r) → P r → P ((endOpenStamp n r) .reader)
 by-stamp P n r pa pb pt pu pi =
     rw endOpenStamp-ended
     (by-ends (λ (a : Read). P (a .reader)) (r .stamp .opened && unclear r) (r .stamp .opened && excessive r)
@@ -125,17 +127,20 @@ then-strobe a f = go (isGood (a .reader))
     go true = refl
     go false = refl
 
-then-fault : (a : Read) (f : Reader → Reader) → (andThen a f) .reader .fault ≡ cond (isGood (a .reader)) ((f (a .reader)) .fault) (a .reader .fault)
+then-fault : (a : Read) (f : Reader → Reader) →
+    (andThen a f) .reader .fault ≡ cond (isGood (a .reader)) ((f (a .reader)) .fault) (a .reader .fault)
 unfolding andThen
 then-fault a f = go (isGood (a .reader))
   where
-    go : (b : Bool) → (cond b (readWith (f (a .reader)) (a .strobe)) a) .reader .fault ≡ cond b ((f (a .reader)) .fault) (a .reader .fault)
+    go : (b : Bool) →
+        (cond b (readWith (f (a .reader)) (a .strobe)) a) .reader .fault ≡ cond b ((f (a .reader)) .fault) (a .reader .fault)
     go true = refl
     go false = refl
 
 -- the stamp's fault comes first, then what follows for a reader without one
 first-fault : (p q : Bool) (n : ℕ) (f : Fault) (g : Fault → Fault) → eqb (f .number) 0 ≡ true →
-    cond (eqb ((cond p (faultWith 13 n) (cond q (faultWith 19 n) f)) .number) 0) (g (cond p (faultWith 13 n) (cond q (faultWith 19 n) f))) (cond p (faultWith 13 n) (cond q (faultWith 19 n) f)) ≡
+    cond (eqb ((cond p (faultWith 13 n) (cond q (faultWith 19 n) f)) .number) 0)
+    (g (cond p (faultWith 13 n) (cond q (faultWith 19 n) f))) (cond p (faultWith 13 n) (cond q (faultWith 19 n) f)) ≡
     cond p (faultWith 13 n) (cond q (faultWith 19 n) (g f))
 first-fault true q n f g good = refl
 first-fault false true n f g good = refl
@@ -189,7 +194,8 @@ passed false x y e = refl
 
 module _ (r : Reader) (w : Word) where
   definition-fault : (s v e d : Bool) →
-      (cond s (at SkipDefinition r) (cond v (at Wire r) (cond (not e) (outOfPlace w r) (cond d (at DefinitionsEnd r) (refused 12 (w .at) r))))) .fault ≡
+      (cond s (at SkipDefinition r) (cond v (at Wire r) (cond (not e) (outOfPlace w r)
+      (cond d (at DefinitionsEnd r) (refused 12 (w .at) r))))) .fault ≡
       cond (not (s || v || e)) (faultWith 11 (w .at)) (cond (not (s || v || d)) (faultWith 12 (w .at)) (r .fault))
   definition-fault true v e d = refl
   definition-fault false true e d = refl
@@ -204,7 +210,8 @@ module _ (r : Reader) (w : Word) where
 
   change-fault : (p q : Place) → (readChange p q r w) .fault ≡ cond (not (isChange r (w .bytes))) (faultWith 11 (w .at)) (r .fault)
   unfolding readChange
-  change-fault p q = go (isVector (w .bytes)) (isScalar r (w .bytes)) (at q (withVector (vectorOf (tail (w .bytes))) r)) (at p (withValue Stb (valueOf (bitOf (getD (w .bytes) 0 0) ∷ [])) r)) refl refl
+  change-fault p q = go (isVector (w .bytes)) (isScalar r (w .bytes)) (at q (withVector (vectorOf (tail (w .bytes))) r))
+      (at p (withValue Stb (valueOf (bitOf (getD (w .bytes) 0 0) ∷ [])) r)) refl refl
     where
       go : (v s : Bool) (x y : Reader) → x .fault ≡ r .fault → y .fault ≡ r .fault →
           (cond v x (cond s y (outOfPlace w r))) .fault ≡ cond (not (v || s)) (faultWith 11 (w .at)) (r .fault)
@@ -212,7 +219,8 @@ module _ (r : Reader) (w : Word) where
       go false true x y e e′ = e′
       go false false x y e e′ = refl
 
-  code-fault : (p : Place) (o : Option Signal) → (readVectorCode p o r w) .fault ≡ cond (not (takesVector o r)) (faultWith 11 (w .at)) (r .fault)
+  code-fault : (p : Place) (o : Option Signal) →
+      (readVectorCode p o r w) .fault ≡ cond (not (takesVector o r)) (faultWith 11 (w .at)) (r .fault)
   unfolding readVectorCode
   code-fault p none = refl
   code-fault p (some s) =
@@ -222,7 +230,9 @@ module _ (r : Reader) (w : Word) where
   unfolding readBlock
   block-fault = go (isText "$end" (w .bytes))
     where
-      go : (b : Bool) → (cond b (at Body r) (readChange Block BlockCode r w)) .fault ≡ cond (not (b || isChange r (w .bytes))) (faultWith 11 (w .at)) (r .fault)
+      go : (b : Bool) →
+          (cond b (at Body r) (readChange Block BlockCode r w)) .fault ≡ cond (not (b || isChange r (w .bytes)))
+          (faultWith 11 (w .at)) (r .fault)
       go true = refl
       go false = change-fault Block BlockCode
 
@@ -230,13 +240,15 @@ module _ (r : Reader) (w : Word) where
       (readBody r w) .reader .fault ≡
       cond (startsTime (w .bytes) && r .stamp .opened && unclear r) (faultWith 13 (w .at))
       (cond (startsTime (w .bytes) && r .stamp .opened && excessive r) (faultWith 19 (w .at))
-      (cond (not (cond (startsTime (w .bytes)) (isTime (w .bytes)) (isText "$comment" (w .bytes) || isDump (w .bytes) || isChange r (w .bytes)))) (faultWith 11 (w .at))
+      (cond (not (cond (startsTime (w .bytes)) (isTime (w .bytes))
+      (isText "$comment" (w .bytes) || isDump (w .bytes) || isChange r (w .bytes)))) (faultWith 11 (w .at))
       (cond (startsTime (w .bytes) && not (isLater r (timeOf (w .bytes)))) (faultWith 14 (w .at)) (r .fault))))
   unfolding readBody
   body-fault good = go (startsTime (w .bytes)) (isText "$comment" (w .bytes)) (isDump (w .bytes))
     where
       go : (t c d : Bool) →
-          (cond t (readTime r w) (cond c (only (at SkipBody r)) (cond d (only (at Block r)) (only (readChange Body BodyCode r w))))) .reader .fault ≡
+          (cond t (readTime r w) (cond c (only (at SkipBody r))
+          (cond d (only (at Block r)) (only (readChange Body BodyCode r w))))) .reader .fault ≡
           cond (t && r .stamp .opened && unclear r) (faultWith 13 (w .at))
           (cond (t && r .stamp .opened && excessive r) (faultWith 19 (w .at))
           (cond (not (cond t (isTime (w .bytes)) (c || d || isChange r (w .bytes)))) (faultWith 11 (w .at))
@@ -257,7 +269,8 @@ module _ (r : Reader) (w : Word) where
 
   readAt-fault : isGood r ≡ true → (p : Place) → (readAt p r w) .reader .fault ≡ faultIn p
   unfolding readAt readDefinition readWidth readCode fitsIn declaresWell faultIn
-  readAt-fault good Definition = definition-fault (isSkipped (w .bytes)) (isText "$var" (w .bytes)) (isText "$enddefinitions" (w .bytes)) (allDeclared r)
+  readAt-fault good Definition = definition-fault (isSkipped (w .bytes)) (isText "$var" (w .bytes))
+      (isText "$enddefinitions" (w .bytes)) (allDeclared r)
   readAt-fault good SkipDefinition = passed (isText "$end" (w .bytes)) (at Definition r) r refl
   readAt-fault good Wire = judged (isText "wire" (w .bytes)) (at Width r) (outOfPlace w r)
   readAt-fault good Width = judged (isDecimal (w .bytes)) (at Code (withWidth (min 255 (decimal (w .bytes))) r)) (outOfPlace w r)

@@ -46,7 +46,8 @@ pub bad-finished : (n : ℕ) (p : Progress) → isGood (p .reader) ≡ false →
 unfolding finished
 bad-finished n p bad = ap (advance (p .commands)) (bad-finish n (p .reader) bad) ∙ advance-only p
 
-bad-answered : (n : ℕ) (p : Progress) → isGood (p .reader) ≡ false → answered n p ≡ says (p .commands) (p .reader .fault .number) (p .reader .fault .offset)
+bad-answered : (n : ℕ) (p : Progress) → isGood (p .reader) ≡ false →
+    answered n p ≡ says (p .commands) (p .reader .fault .number) (p .reader .fault .offset)
 unfolding answered
 bad-answered n p bad = ap (λ (b : Bool). says (p .commands) (p .reader .fault .number) (cond b n (p .reader .fault .offset))) bad
 
@@ -93,7 +94,8 @@ module _ (ws : List Word) (w : Word) (m : List·Memᴰ w ws) where
       go : Flag (isGood r) → Told ws ((readWord r w) .reader .fault)
       go (on e) =
           rw ((faults-exact r e) .0 w)
-          (told-at (endsStamp r w && unclear r) (endsStamp r w && excessive r) (not (fitsIn (r .place) r (w .bytes))) (not (declaresWell (r .place) r (w .bytes))) (isLate r (w .bytes)) (r .fault) t)
+          (told-at (endsStamp r w && unclear r) (endsStamp r w && excessive r) (not (fitsIn (r .place) r (w .bytes)))
+          (not (declaresWell (r .place) r (w .bytes))) (isLate r (w .bytes)) (r .fault) t)
       go (off e) = rw (bad-word r w e) t
 
 told-words : (ws : List Word) (p : Progress) (vs : List Word) → ((w : Word) → List·Memᴰ w vs → List·Memᴰ w ws) →
@@ -101,7 +103,8 @@ told-words : (ws : List Word) (p : Progress) (vs : List Word) → ((w : Word) �
 unfolding readWords advance
 told-words ws p [] sub t = t
 told-words ws p (v ∷ vs) sub t =
-    told-words ws (advance (p .commands) (readWord (p .reader) v)) vs (λ w m. sub w (there m)) (told-word ws v (sub v (here refl)) (p .reader) t)
+    told-words ws (advance (p .commands) (readWord (p .reader) v)) vs (λ w m. sub w (there m))
+    (told-word ws v (sub v (here refl)) (p .reader) t)
 
 -- the same, or at the end
 data Ended (ws : List Word) (n : ℕ) (f : Fault) : Type 0 where
@@ -135,7 +138,8 @@ not-zero k (there (there (there (there (here e))))) = rw e
 
 module _ (t : List ℕ) (p : Progress) where
   shown-answer : Ended (words t) (length t) (p .reader .fault) →
-      List·Memᴰ ((answered (length t) p) .number) (0 ∷ numbers) × Shown t ((answered (length t) p) .offset) × ((answered (length t) p) .number ≡ 0 → (answered (length t) p) .offset ≡ length t)
+      List·Memᴰ ((answered (length t) p) .number) (0 ∷ numbers) × Shown t ((answered (length t) p) .offset) ×
+      ((answered (length t) p) .number ≡ 0 → (answered (length t) p) .offset ≡ length t)
   unfolding answered
   shown-answer (told (good e)) =
       let g : isGood (p .reader) ≡ true = rw e in

@@ -46,7 +46,8 @@ Follows n pl I ws = (p : Progress) → p .reader .place ≡ pl → isGood (p .re
 
 -- a word that can stand there and declares well is followed by what follows the reader after it, or by nothing
 module _ (n : ℕ) (pl next : Place) (I : Reader → Type 0) (p : Progress) (w : Word) (ws : List Word) where
-  move : p .reader .place ≡ pl → isGood (p .reader) ≡ true → fitsIn pl (p .reader) (w .bytes) ≡ true → declaresWell pl (p .reader) (w .bytes) ≡ true →
+  move : p .reader .place ≡ pl → isGood (p .reader) ≡ true → fitsIn pl (p .reader) (w .bytes) ≡ true →
+      declaresWell pl (p .reader) (w .bytes) ≡ true →
       (y : Reader) → (readAt pl (p .reader) w) .reader ≡ y → y .place ≡ next → I y → Follows n next I ws → Fine n p (w ∷ ws)
   unfolding Fine Follows readWords advance
   move e g f d y k l i follows = go (flag (isGood (x .reader)))
@@ -61,7 +62,8 @@ module _ (n : ℕ) (pl next : Place) (I : Reader → Type 0) (p : Progress) (w :
       reached = ap (λ (a : Read). a .reader) (good-word r w g) ∙ ap (λ (q : Place). (readAt q r w) .reader) e ∙ k
 
       clear : Clear (x .reader .fault)
-      clear = clear-word r w g (subst (λ (q : Place). fitsIn q r (w .bytes) ≡ true) (sym e) f) (subst (λ (q : Place). declaresWell q r (w .bytes) ≡ true) (sym e) d)
+      clear = clear-word r w g (subst (λ (q : Place). fitsIn q r (w .bytes) ≡ true) (sym e) f)
+          (subst (λ (q : Place). declaresWell q r (w .bytes) ≡ true) (sym e) d)
 
       go : Flag (isGood (x .reader)) → Clear ((finished n (readWords (advance (p .commands) x) ws)) .reader .fault)
       go (on b) = follows (advance (p .commands) x) (ap (λ (z : Reader). z .place) reached ∙ l) b (subst I (sym reached) i)
@@ -85,11 +87,13 @@ module _ (n : ℕ) (ds : List Declaration) (inside next : Place)
       move n inside inside (Declared ds) p w ws e g ((fits (p .reader) w) .0) ((fits (p .reader) w) .1) (p .reader)
       (reads (p .reader) w ∙ ap (λ (b : Bool). cond b (at next (p .reader)) (p .reader)) h) e a (skipped s follows)
 
-skipped-definition : (n : ℕ) (ds : List Declaration) {ws rest : List Word} → Skipped ws rest → Follows n Definition (Declared ds) rest → Follows n SkipDefinition (Declared ds) ws
+skipped-definition : (n : ℕ) (ds : List Declaration) {ws rest : List Word} → Skipped ws rest →
+    Follows n Definition (Declared ds) rest → Follows n SkipDefinition (Declared ds) ws
 unfolding readAt fitsIn declaresWell
 skipped-definition n ds s = skipped n ds SkipDefinition Definition (λ r w. refl) (λ r w. (refl, refl)) s
 
-skipped-body : (n : ℕ) (ds : List Declaration) {ws rest : List Word} → Skipped ws rest → Follows n Body (Declared ds) rest → Follows n SkipBody (Declared ds) ws
+skipped-body : (n : ℕ) (ds : List Declaration) {ws rest : List Word} → Skipped ws rest → Follows n Body (Declared ds) rest →
+    Follows n SkipBody (Declared ds) ws
 unfolding readAt fitsIn declaresWell
 skipped-body n ds s = skipped n ds SkipBody Body (λ r w. refl) (λ r w. (refl, refl)) s
 
@@ -126,8 +130,13 @@ bit-no-vector v c e = rw (other-byte isBit v 98 e refl, other-byte isBit v 66 e 
 
 plain-no-dump : (w : List ℕ) → Plain w → isDump w ≡ false
 plain-no-dump w p =
-    rw
-    (not-keyword w (bytesOf "dumpvars") p, not-keyword w (bytesOf "dumpall") p, not-keyword w (bytesOf "dumpon") p, not-keyword w (bytesOf "dumpoff") p)
+    rw (
+      not-keyword w (bytesOf "dumpvars") p,
+      not-keyword w (bytesOf "dumpall") p,
+      not-keyword w (bytesOf "dumpon") p,
+      not-keyword w
+          (bytesOf "dumpoff") p,
+    )
 
 -- a place where changes stand, and that of their vectors' codes
 record Changing (p q : Place) : Type 0 where
@@ -165,7 +174,8 @@ in-block =
 -- ---- what the reader holds of a declared variable
 
 -- two declarations with the same code are one
-once : (f : Declaration → List ℕ) (ds : List Declaration) → Once f ds → (d e : Declaration) → List·Memᴰ d ds → List·Memᴰ e ds → f d ≡ f e → d ≡ e
+once : (f : Declaration → List ℕ) (ds : List Declaration) → Once f ds → (d e : Declaration) → List·Memᴰ d ds → List·Memᴰ e ds →
+    f d ≡ f e → d ≡ e
 once f ds (more h o) d e (here p) (here q) k = p ∙ sym q
 once f ds (more h o) d e (here p) (there m) k = absurd (h e m (sym (ap f p) ∙ k))
 once f ds (more h o) d e (there m) (here q) k = absurd (h d m (sym (ap f q) ∙ sym k))
@@ -182,7 +192,8 @@ module _ (r : Reader) (ds : List Declaration) (a : Agrees (r .variables) ds) (d 
       (eq-eqb ((variable r (known .signal)) .code) (codeOf (d .code)) (known .code))
 
   has-code-of : (s : Signal) → d .name ≡ nameOf s → hasCode r (d .code) s ≡ true
-  has-code-of s e = subst (λ (x : Signal). hasCode r (d .code) x ≡ true) (name-injective (known .signal) s (sym (known .named) ∙ e)) has-code
+  has-code-of s e = subst (λ (x : Signal). hasCode r (d .code) x ≡ true) (name-injective (known .signal) s (sym (known .named) ∙ e))
+      has-code
 
   -- no other variable has the code
   only-this : (s : Signal) (c : List ℕ) → c ≡ d .code → hasCode r c s ≡ true → (variable r s) .width ≡ d .width
@@ -203,28 +214,39 @@ is-vector Arg h = there (there (here refl))
 is-vector Prio h = there (there (there (here refl)))
 
 -- the code of a declared vector is taken for a variable that is wide enough
-takes-vector : (r : Reader) (ds : List Declaration) (a : Agrees (r .variables) ds) (d : Declaration) (m : List·Memᴰ d ds) → d .name ≢ nameOf Stb → (c : List ℕ) → c ≡ d .code →
-    r .pending .vector .length ≤ d .width → (s : Signal) × (vectorSignal r c ≡ some s) × (leb (r .pending .vector .length) ((variable r s) .width) ≡ true)
+takes-vector : (r : Reader) (ds : List Declaration) (a : Agrees (r .variables) ds) (d : Declaration) (m : List·Memᴰ d ds) →
+    d .name ≢ nameOf Stb → (c : List ℕ) → c ≡ d .code →
+    r .pending .vector .length ≤ d .width → (s : Signal) × (vectorSignal r c ≡ some s) ×
+    (leb (r .pending .vector .length) ((variable r s) .width) ≡ true)
 unfolding vectors
 takes-vector r ds a d m h c e l =
     let x : Known (r .variables) d = known r ds a d m in
     let f : (s : Signal) × (vectorSignal r c ≡ some s) × (hasCode r c s ≡ true) =
-    first-in (hasCode r c) vectors (x .signal) (is-vector (x .signal) (λ p. h (x .named ∙ p))) (rw e (has-code-of r ds a d m (x .signal) (x .named))) in
-    (f .0, f .1, le-leb (r .pending .vector .length) ((variable r (f .0)) .width) (omega (arith, l, only-this r ds a d m (f .0) c e (f .2))))
+    first-in (hasCode r c) vectors (x .signal) (is-vector (x .signal) (λ p. h (x .named ∙ p)))
+    (rw e (has-code-of r ds a d m (x .signal) (x .named))) in (
+      f .0,
+      f .1,
+      le-leb (r .pending .vector .length) ((variable r (f .0)) .width)
+          (omega (arith, l, only-this r ds a d m (f .0) c e (f .2))),
+    )
 
 -- ---- changes
 
 abbrev scalarRead : Place → Reader → Word → Reader
 scalarRead p r w = at p (withValue Stb (valueOf (bitOf (getD (w .bytes) 0 0) ∷ [])) r)
 
-read-vector : (p q : Place) (r : Reader) (w : Word) → isVector (w .bytes) ≡ true → readChange p q r w ≡ at q (withVector (vectorOf (tail (w .bytes))) r)
+read-vector : (p q : Place) (r : Reader) (w : Word) → isVector (w .bytes) ≡ true →
+    readChange p q r w ≡ at q (withVector (vectorOf (tail (w .bytes))) r)
 unfolding readChange
-read-vector p q r w v = ap (λ (b : Bool). cond b (at q (withVector (vectorOf (tail (w .bytes))) r)) (cond (isScalar r (w .bytes)) (scalarRead p r w) (outOfPlace w r))) v
+read-vector p q r w v = ap (λ (b : Bool). cond b (at q (withVector (vectorOf (tail (w .bytes))) r))
+    (cond (isScalar r (w .bytes)) (scalarRead p r w) (outOfPlace w r))) v
 
-read-scalar : (p q : Place) (r : Reader) (w : Word) → isVector (w .bytes) ≡ false → isScalar r (w .bytes) ≡ true → readChange p q r w ≡ scalarRead p r w
+read-scalar : (p q : Place) (r : Reader) (w : Word) → isVector (w .bytes) ≡ false → isScalar r (w .bytes) ≡ true →
+    readChange p q r w ≡ scalarRead p r w
 unfolding readChange
 read-scalar p q r w v s =
-    ap (λ (b : Bool). cond b (at q (withVector (vectorOf (tail (w .bytes))) r)) (cond (isScalar r (w .bytes)) (scalarRead p r w) (outOfPlace w r))) v ∙
+    ap (λ (b : Bool). cond b (at q (withVector (vectorOf (tail (w .bytes))) r))
+    (cond (isScalar r (w .bytes)) (scalarRead p r w) (outOfPlace w r))) v ∙
     ap (λ (b : Bool). cond b (scalarRead p r w) (outOfPlace w r)) s
 
 module _ (n : ℕ) (ds : List Declaration) (p q : Place) (places : Changing p q) where
@@ -232,7 +254,8 @@ module _ (n : ℕ) (ds : List Declaration) (p q : Place) (places : Changing p q)
   Vectored : ℕ → Reader → Type 0
   Vectored l r = Agrees (r .variables) ds × (r .pending .vector .length ≤ l)
 
-  coded : (d : Declaration) → List·Memᴰ d ds → d .name ≢ nameOf Stb → (l : ℕ) → l ≤ d .width → (c : Word) → c .bytes ≡ d .code → (ws : List Word) →
+  coded : (d : Declaration) → List·Memᴰ d ds → d .name ≢ nameOf Stb → (l : ℕ) → l ≤ d .width → (c : Word) → c .bytes ≡ d .code →
+      (ws : List Word) →
       Follows n p (Declared ds) ws → Follows n q (Vectored l) (c ∷ ws)
   unfolding Follows Declared Vectored readVectorCode
   coded d m h l fits c e ws follows x ex g i =
@@ -240,8 +263,10 @@ module _ (n : ℕ) (ds : List Declaration) (p q : Place) (places : Changing p q)
       let t : (s : Signal) × (vectorSignal r (c .bytes) ≡ some s) × (leb (r .pending .vector .length) ((variable r s) .width) ≡ true) =
       takes-vector r ds (i .0) d m h (c .bytes) e (omega (arith, i .1, fits)) in
       let y : Reader = at p (withValue (t .0) (r .pending .vector .value) r) in
-      move n q p (Declared ds) x c ws ex g (places .code-fits r c (ap (λ (o : Option Signal). takesVector o r) (t .1) ∙ t .2)) (places .code-declares r c) y
-      (places .code-reads r c ∙ ap (λ (o : Option Signal). readVectorCode p o r c) (t .1) ∙ ap (λ (b : Bool). cond b y (outOfPlace c r)) (t .2))
+      move n q p (Declared ds) x c ws ex g (places .code-fits r c (ap (λ (o : Option Signal). takesVector o r) (t .1) ∙ t .2))
+      (places .code-declares r c) y
+      (places .code-reads r c ∙ ap (λ (o : Option Signal). readVectorCode p o r c) (t .1) ∙ ap
+      (λ (b : Bool). cond b y (outOfPlace c r)) (t .2))
       refl (agrees-kept (r .variables) (y .variables) ds (value-kinds r (t .0) (r .pending .vector .value)) (i .0)) follows
 
   changed : {ws rest : List Word} → Change ds ws rest → Follows n p (Declared ds) rest → Follows n p (Declared ds) ws
@@ -250,19 +275,24 @@ module _ (n : ℕ) (ds : List Declaration) (p q : Place) (places : Changing p q)
       let r : Reader = x .reader in
       let plain : Plain (w .bytes) = subst Plain (sym k) (plain-bit v (d .code) b) in
       let s : isScalar r (w .bytes) ≡ true = ap (isScalar r) k ∙ and-in b (has-code-of r ds a d m Stb h) in
-      move n p p (Declared ds) x w ws ex g (places .fits r w plain (or-in-r (isVector (w .bytes)) s)) (places .declares-well r w) (scalarRead p r w)
+      move n p p (Declared ds) x w ws ex g (places .fits r w plain (or-in-r (isVector (w .bytes)) s)) (places .declares-well r w)
+      (scalarRead p r w)
       (places .reads r w plain ∙ read-scalar p q r w (ap isVector k ∙ bit-no-vector v (d .code) b) s)
-      refl (agrees-kept (r .variables) ((scalarRead p r w) .variables) ds (value-kinds r Stb (valueOf (bitOf (getD (w .bytes) 0 0) ∷ []))) a) follows
+      refl (agrees-kept (r .variables) ((scalarRead p r w) .variables) ds
+      (value-kinds r Stb (valueOf (bitOf (getD (w .bytes) 0 0) ∷ []))) a) follows
   changed (vector {w} {c} {ws} d m h v l k) follows x ex g a =
       let r : Reader = x .reader in
       let plain : Plain (w .bytes) = plain-vector (w .bytes) v in
-      move n p q (Vectored (length (tail (w .bytes)))) x w (c ∷ ws) ex g (places .fits r w plain (or-in-l (isScalar r (w .bytes)) v)) (places .declares-well r w)
-      (at q (withVector (vectorOf (tail (w .bytes))) r)) (places .reads r w plain ∙ read-vector p q r w v) refl (a, min-le-right 255 (length (tail (w .bytes))))
+      move n p q (Vectored (length (tail (w .bytes)))) x w (c ∷ ws) ex g (places .fits r w plain (or-in-l (isScalar r (w .bytes)) v))
+      (places .declares-well r w)
+      (at q (withVector (vectorOf (tail (w .bytes))) r)) (places .reads r w plain ∙ read-vector p q r w v) refl
+      (a, min-le-right 255 (length (tail (w .bytes))))
       (coded d m h (length (tail (w .bytes))) l c k ws follows)
 
 -- ---- blocks and items
 
-block : (n : ℕ) (ds : List Declaration) {ws rest : List Word} → Changes ds ws rest → Follows n Body (Declared ds) rest → Follows n Block (Declared ds) ws
+block : (n : ℕ) (ds : List Declaration) {ws rest : List Word} → Changes ds ws rest → Follows n Body (Declared ds) rest →
+    Follows n Block (Declared ds) ws
 unfolding Follows Declared readAt readBlock fitsIn declaresWell
 block n ds (Changes.ends {w} {ws} h) follows x ex g a =
     move n Block Body (Declared ds) x w ws ex g (or-in-l (isChange (x .reader) (w .bytes)) h) refl (at Body (x .reader))
@@ -270,7 +300,8 @@ block n ds (Changes.ends {w} {ws} h) follows x ex g a =
 block n ds (Changes.change c cs) follows x ex g a = changed n ds Block BlockCode in-block c (block n ds cs follows) x ex g a
 
 -- a test that holds of each text of a list holds of a word that is one of them
-keyword : (f : List ℕ → Bool) (l : List String) (w : List ℕ) → all (λ s. f (bytesOf s)) l ≡ true → any (λ s. isText s w) l ≡ true → f w ≡ true
+keyword : (f : List ℕ → Bool) (l : List String) (w : List ℕ) → all (λ s. f (bytesOf s)) l ≡ true → any (λ s. isText s w) l ≡ true →
+    f w ≡ true
 keyword f l w h e =
     let x : (s : String) × List·Memᴰ s l × (isText s w ≡ true) = any-out (λ (s : String). isText s w) l e in
     ap f (same-bytes w (bytesOf (x .0)) (x .2)) ∙ all-out (λ (s : String). f (bytesOf s)) l h (x .0) (x .1)
@@ -292,7 +323,8 @@ unfolding Follows Fine Declared readWords finished advance readAt readBody fitsI
 items n ds Items.done x ex g a = clear-finish n (x .reader) g (ap isBody ex)
 items n ds (Items.time {w} {ws} t i) x ex g a =
     let r : Reader = x .reader in
-    let s : startsTime (w .bytes) ≡ true = and-l (startsTime (w .bytes)) _ (and-l (startsTime (w .bytes) && isDecimal (tail (w .bytes))) _ t) in
+    let s : startsTime (w .bytes) ≡ true = and-l (startsTime (w .bytes)) _
+    (and-l (startsTime (w .bytes) && isDecimal (tail (w .bytes))) _ t) in
     let y : Stays r ((readTime r w) .reader) = time-stays r w in
     move n Body Body (Declared ds) x w ws ex g (rw (t, s)) refl ((readTime r w) .reader) (rw s) (y .place ∙ ex)
     (subst (λ (vs : Variables). Agrees vs ds) (sym (y .variables)) a) (items n ds i)
@@ -301,7 +333,8 @@ items n ds (Items.comment {w} {ws} h s i) x ex g a =
     move n Body SkipBody (Declared ds) x w ws ex g (rw e) refl (at SkipBody (x .reader)) (rw e) refl a (skipped-body n ds s (items n ds i))
 items n ds (Items.dump {w} {ws} d c i) x ex g a =
     let e : (startsTime (w .bytes) ≡ false) × (isText "$comment" (w .bytes) ≡ false) = dump-word (w .bytes) d in
-    move n Body Block (Declared ds) x w ws ex g (rw (e .0, d, e .1)) refl (at Block (x .reader)) (rw (e .0, e .1, d)) refl a (block n ds c (items n ds i))
+    move n Body Block (Declared ds) x w ws ex g (rw (e .0, d, e .1)) refl (at Block (x .reader)) (rw (e .0, e .1, d)) refl a
+    (block n ds c (items n ds i))
 items n ds (Items.change c i) x ex g a = changed n ds Body BodyCode in-body c (items n ds i) x ex g a
 
 -- ---- the definitions
@@ -317,7 +350,8 @@ record SoFar (ds : List Declaration) : Type 0 where
 once-tail : {f : Declaration → List ℕ} {d : Declaration} {ds : List Declaration} → Once f (d ∷ ds) → Once f ds
 once-tail (more h o) = o
 
-once-head : {f : Declaration → List ℕ} {d : Declaration} {ds : List Declaration} → Once f (d ∷ ds) → (e : Declaration) → List·Memᴰ e ds → f d ≢ f e
+once-head : {f : Declaration → List ℕ} {d : Declaration} {ds : List Declaration} → Once f (d ∷ ds) → (e : Declaration) →
+    List·Memᴰ e ds → f d ≢ f e
 once-head (more h o) = h
 
 so-far : {ds : List Declaration} {ws : List Word} → Definitions ds ws → SoFar ds
@@ -337,7 +371,8 @@ so-far (Definitions.end pv pe c i) =
     record { form = c .form; listed = c .listed; right = c .right; names = c .names; codes = c .codes }
 
 -- a declaration that completeness allows is right
-module _ (r : Reader) (ds : List Declaration) (a : Agrees (r .variables) ds) (d : Declaration) (is-code : isCode (d .code) ≡ true) (f : SoFar (d ∷ ds)) (s : Signal) (named : d .name ≡ nameOf s) where
+module _ (r : Reader) (ds : List Declaration) (a : Agrees (r .variables) ds) (d : Declaration) (is-code : isCode (d .code) ≡ true)
+    (f : SoFar (d ∷ ds)) (s : Signal) (named : d .name ≡ nameOf s) where
   -- the form's width of a variable is told by its name
   form-width : (e : Declaration) → List·Memᴰ e (d ∷ ds) → (s′ : Signal) → e .name ≡ nameOf s′ → e .width ≡ widthIn (f .form) s′
   form-width e m s′ k =
@@ -358,7 +393,8 @@ module _ (r : Reader) (ds : List Declaration) (a : Agrees (r .variables) ds) (d 
         unused =
             λ s′ k.
             let x : Declares r ds s′ = declaration-of r ds s′ a (positive s′ k) in
-            once-head (f .codes) (x .declaration) (x .listed) (code-injective (d .code) (x .declaration .code) is-code (x .coded) (sym k ∙ x .code));
+            once-head (f .codes) (x .declaration) (x .listed)
+            (code-injective (d .code) (x .declaration .code) is-code (x .coded) (sym k ∙ x .code));
       }
     where
       zero-code : Flag (ltb 0 ((variable r s) .code)) → (variable r s) .code ≡ 0
@@ -378,14 +414,17 @@ module _ (n : ℕ) (ds : List Declaration) where
   Code-read : Word → Word → Reader → Type 0
   Code-read w c r = Agrees (r .variables) ds × (min 255 (decimal (w .bytes)) ≡ r .pending .width) × (codeOf (c .bytes) ≡ r .pending .code)
 
-  closing : (ds′ : List Declaration) (e : Word) (ws : List Word) → Is "$end" e → Follows n Definition (Declared ds′) ws → Follows n VarEnd (Declared ds′) (e ∷ ws)
+  closing : (ds′ : List Declaration) (e : Word) (ws : List Word) → Is "$end" e → Follows n Definition (Declared ds′) ws →
+      Follows n VarEnd (Declared ds′) (e ∷ ws)
   unfolding Follows Declared readAt fitsIn declaresWell
   closing ds′ e ws h follows x ex g a =
       move n VarEnd Definition (Declared ds′) x e ws ex g h refl (at Definition (x .reader))
       (ap (λ (b : Bool). cond b (at Definition (x .reader)) (outOfPlace e (x .reader))) h) refl a follows
 
-  naming : (w c m e : Word) (ws : List Word) → isCode (c .bytes) ≡ true → SoFar (declaration (m .bytes) (decimal (w .bytes)) (c .bytes) ∷ ds) →
-      Follows n VarEnd (Declared (declaration (m .bytes) (decimal (w .bytes)) (c .bytes) ∷ ds)) (e ∷ ws) → Follows n Name (Code-read w c) (m ∷ e ∷ ws)
+  naming : (w c m e : Word) (ws : List Word) → isCode (c .bytes) ≡ true →
+      SoFar (declaration (m .bytes) (decimal (w .bytes)) (c .bytes) ∷ ds) →
+      Follows n VarEnd (Declared (declaration (m .bytes) (decimal (w .bytes)) (c .bytes) ∷ ds)) (e ∷ ws) → Follows n Name
+      (Code-read w c) (m ∷ e ∷ ws)
   unfolding Follows Declared Code-read readAt readName fitsIn declaresWell
   naming w c m e ws pc f follows x ex g i =
       let d : Declaration = declaration (m .bytes) (decimal (w .bytes)) (c .bytes) in
@@ -395,21 +434,27 @@ module _ (n : ℕ) (ds : List Declaration) where
       let q : Right r (k .0) d = is-right r ds (i .0) d pc f (k .0) (k .1) in
       let o : signalOf (m .bytes) ≡ some (k .0) = ap signalOf (k .1) ∙ signal-of-name (k .0) in
       let t : declares r (k .0) ≡ true = declares-in r (k .0) d p q in
-      move n Name VarEnd (Declared (d ∷ ds)) x m (e ∷ ws) ex g refl (ap (λ (y : Option Signal). isDeclared y r) o ∙ t) (at VarEnd (declaring (k .0) r))
-      (ap (λ (y : Option Signal). readName y r m) o ∙ ap (λ (b : Bool). cond b (at VarEnd (declaring (k .0) r)) (refused 12 (m .at) r)) t) refl
+      move n Name VarEnd (Declared (d ∷ ds)) x m (e ∷ ws) ex g refl (ap (λ (y : Option Signal). isDeclared y r) o ∙ t)
+      (at VarEnd (declaring (k .0) r))
+      (ap (λ (y : Option Signal). readName y r m) o ∙ ap (λ (b : Bool). cond b (at VarEnd (declaring (k .0) r))
+      (refused 12 (m .at) r)) t) refl
       (agrees-declared r ds (k .0) d p q (i .0)) follows
 
-  coding : (w c : Word) (ws : List Word) → isCode (c .bytes) ≡ true → Follows n Name (Code-read w c) ws → Follows n Code (Width-read w) (c ∷ ws)
+  coding : (w c : Word) (ws : List Word) → isCode (c .bytes) ≡ true → Follows n Name (Code-read w c) ws →
+      Follows n Code (Width-read w) (c ∷ ws)
   unfolding Follows Width-read Code-read readAt readCode fitsIn declaresWell
   coding w c ws h follows x ex g i =
       move n Code Name (Code-read w c) x c ws ex g h refl (at Name (withCode (codeOf (c .bytes)) (x .reader)))
-      (ap (λ (b : Bool). cond b (at Name (withCode (codeOf (c .bytes)) (x .reader))) (outOfPlace c (x .reader))) h) refl (i .0, i .1, refl) follows
+      (ap (λ (b : Bool). cond b (at Name (withCode (codeOf (c .bytes)) (x .reader))) (outOfPlace c (x .reader))) h) refl
+      (i .0, i .1, refl) follows
 
-  sizing : (w : Word) (ws : List Word) → isDecimal (w .bytes) ≡ true → Follows n Code (Width-read w) ws → Follows n Width (Declared ds) (w ∷ ws)
+  sizing : (w : Word) (ws : List Word) → isDecimal (w .bytes) ≡ true → Follows n Code (Width-read w) ws →
+      Follows n Width (Declared ds) (w ∷ ws)
   unfolding Follows Declared Width-read readAt readWidth fitsIn declaresWell
   sizing w ws h follows x ex g a =
       move n Width Code (Width-read w) x w ws ex g h refl (at Code (withWidth (min 255 (decimal (w .bytes))) (x .reader)))
-      (ap (λ (b : Bool). cond b (at Code (withWidth (min 255 (decimal (w .bytes))) (x .reader))) (outOfPlace w (x .reader))) h) refl (a, refl) follows
+      (ap (λ (b : Bool). cond b (at Code (withWidth (min 255 (decimal (w .bytes))) (x .reader))) (outOfPlace w (x .reader))) h) refl
+      (a, refl) follows
 
   wiring : (i : Word) (ws : List Word) → Is "wire" i → Follows n Width (Declared ds) ws → Follows n Wire (Declared ds) (i ∷ ws)
   unfolding Follows Declared readAt fitsIn declaresWell
@@ -431,7 +476,8 @@ module _ (n : ℕ) (ds : List Declaration) where
       let d : (d : Declaration) × List·Memᴰ d ds × (d .name ≡ nameOf s) = c .each s in
       and-l (declared r s) (eqb ((variable r s) .code) (codeOf (d .0 .code))) (has-code-of r ds a (d .0) (d .1) s (d .2)))
 
-  ending-definitions : (v e : Word) (ws : List Word) → Is "$enddefinitions" v → Is "$end" e → Complete ds → Follows n Body (Declared ds) ws → Follows n Definition (Declared ds) (v ∷ e ∷ ws)
+  ending-definitions : (v e : Word) (ws : List Word) → Is "$enddefinitions" v → Is "$end" e → Complete ds →
+      Follows n Body (Declared ds) ws → Follows n Definition (Declared ds) (v ∷ e ∷ ws)
   unfolding Follows Declared readAt readDefinition fitsIn declaresWell
   ending-definitions v e ws h h′ c follows x ex g a =
       let k : v .bytes ≡ bytesOf "$enddefinitions" = same-bytes (v .bytes) (bytesOf "$enddefinitions") h in
@@ -441,7 +487,8 @@ module _ (n : ℕ) (ds : List Declaration) where
       move n DefinitionsEnd Body (Declared ds) y e ws ey gy h′ refl (at Body (y .reader))
       (ap (λ (b : Bool). cond b (at Body (y .reader)) (outOfPlace e (y .reader))) h′) refl ay follows)
 
-skipping-definition : (n : ℕ) (ds : List Declaration) (w : Word) (ws : List Word) → isSkipped (w .bytes) ≡ true → Follows n SkipDefinition (Declared ds) ws → Follows n Definition (Declared ds) (w ∷ ws)
+skipping-definition : (n : ℕ) (ds : List Declaration) (w : Word) (ws : List Word) → isSkipped (w .bytes) ≡ true →
+    Follows n SkipDefinition (Declared ds) ws → Follows n Definition (Declared ds) (w ∷ ws)
 unfolding Follows Declared readAt readDefinition fitsIn declaresWell
 skipping-definition n ds w ws h follows p e g a =
     move n Definition SkipDefinition (Declared ds) p w ws e g (rw h) (rw h) (at SkipDefinition (p .reader)) (rw h) refl a follows

@@ -56,7 +56,8 @@ first-out f (x ∷ xs) s e = go (flag (f x)) (first-out f xs s)
         let r : List·Memᴰ s xs × (f s ≡ true) = rest (sym (ap (λ (b : Bool). cond b (some x) (first f xs)) p) ∙ e) in
         (there (r .0), r .1)
 
-pub first-in : (f : Signal → Bool) (l : List Signal) (s : Signal) → List·Memᴰ s l → f s ≡ true → (s′ : Signal) × (first f l ≡ some s′) × (f s′ ≡ true)
+pub first-in : (f : Signal → Bool) (l : List Signal) (s : Signal) → List·Memᴰ s l → f s ≡ true →
+    (s′ : Signal) × (first f l ≡ some s′) × (f s′ ≡ true)
 first-in f (x ∷ xs) s m e = go (flag (f x)) m (first-in f xs s)
   where
     go : Flag (f x) → List·Memᴰ s (x ∷ xs) → (List·Memᴰ s xs → f s ≡ true → (s′ : Signal) × (first f xs ≡ some s′) × (f s′ ≡ true)) →

@@ -27,7 +27,8 @@ use Rattle.readings.proofs.Final.{bad-words, bad-finished}
 
 -- of the six outcomes the last alone has no fault
 good-last : (p q i v l : Bool) (n : ℕ) (f : Fault) →
-    eqb ((cond p (faultWith 13 n) (cond q (faultWith 19 n) (cond (not i) (faultWith 11 n) (cond (not v) (faultWith 12 n) (cond l (faultWith 14 n) f))))) .number) 0 ≡ true →
+    eqb ((cond p (faultWith 13 n) (cond q (faultWith 19 n) (cond (not i) (faultWith 11 n)
+    (cond (not v) (faultWith 12 n) (cond l (faultWith 14 n) f))))) .number) 0 ≡ true →
     (i ≡ true) × (v ≡ true)
 good-last true q i v l n f e = absurd (true≢false (sym e))
 good-last false true i v l n f e = absurd (true≢false (sym e))
@@ -39,7 +40,8 @@ pub good-fits : (r : Reader) (w : Word) → isGood r ≡ true → isGood ((readW
     (fitsIn (r .place) r (w .bytes) ≡ true) × (declaresWell (r .place) r (w .bytes) ≡ true)
 unfolding faultAt
 good-fits r w g e =
-    good-last (endsStamp r w && unclear r) (endsStamp r w && excessive r) (fitsIn (r .place) r (w .bytes)) (declaresWell (r .place) r (w .bytes)) (isLate r (w .bytes)) (w .at) (r .fault)
+    good-last (endsStamp r w && unclear r) (endsStamp r w && excessive r) (fitsIn (r .place) r (w .bytes))
+    (declaresWell (r .place) r (w .bytes)) (isLate r (w .bytes)) (w .at) (r .fault)
     (ap (λ (f : Fault). eqb (f .number) 0) (sym ((faults-exact r g) .0 w)) ∙ e)
 
 good-end : (p q b : Bool) (n : ℕ) (f : Fault) →
@@ -56,7 +58,8 @@ good-finish-body n r g e =
     good-end (r .stamp .opened && unclear r) (r .stamp .opened && excessive r) (isBody (r .place)) n (r .fault)
     (ap (λ (f : Fault). eqb (f .number) 0) (sym ((faults-exact r g) .1 n)) ∙ e)
 
-pub good-before : (n : ℕ) (p : Progress) (ws : List Word) → isGood ((finished n (readWords p ws)) .reader) ≡ true → isGood (p .reader) ≡ true
+pub good-before : (n : ℕ) (p : Progress) (ws : List Word) → isGood ((finished n (readWords p ws)) .reader) ≡ true →
+    isGood (p .reader) ≡ true
 good-before n p ws e =
     confirmed (isGood (p .reader))
     (λ b. true≢false (sym e ∙ ap (λ (q : Progress). isGood (q .reader)) (ap (finished n) (bad-words p ws b) ∙ bad-finished n p b) ∙ b))
@@ -75,20 +78,24 @@ clear-number : (k n : ℕ) → (k ≢ 11) × (k ≢ 12) → Clear (faultWith k n
 clear-number k n h = record { not-grammar = h .0; not-variable = h .1 }
 
 clear-fits : (p q l : Bool) (n : ℕ) (f : Fault) → Clear f →
-    Clear (cond p (faultWith 13 n) (cond q (faultWith 19 n) (cond (not true) (faultWith 11 n) (cond (not true) (faultWith 12 n) (cond l (faultWith 14 n) f)))))
+    Clear (cond p (faultWith 13 n) (cond q (faultWith 19 n) (cond (not true) (faultWith 11 n)
+    (cond (not true) (faultWith 12 n) (cond l (faultWith 14 n) f)))))
 clear-fits true q l n f c = clear-number 13 n (omega arith)
 clear-fits false true l n f c = clear-number 19 n (omega arith)
 clear-fits false false true n f c = clear-number 14 n (omega arith)
 clear-fits false false false n f c = c
 
-pub clear-word : (r : Reader) (w : Word) → isGood r ≡ true → fitsIn (r .place) r (w .bytes) ≡ true → declaresWell (r .place) r (w .bytes) ≡ true →
+pub clear-word : (r : Reader) (w : Word) → isGood r ≡ true → fitsIn (r .place) r (w .bytes) ≡ true →
+    declaresWell (r .place) r (w .bytes) ≡ true →
     Clear ((readWord r w) .reader .fault)
 unfolding faultAt
 clear-word r w g f d =
     rw ((faults-exact r g) .0 w, f, d)
-    (clear-fits (endsStamp r w && unclear r) (endsStamp r w && excessive r) (isLate r (w .bytes)) (w .at) (r .fault) (clear-good (r .fault) (eqb-true (r .fault .number) 0 g)))
+    (clear-fits (endsStamp r w && unclear r) (endsStamp r w && excessive r) (isLate r (w .bytes)) (w .at) (r .fault)
+    (clear-good (r .fault) (eqb-true (r .fault .number) 0 g)))
 
-clear-last : (p q : Bool) (n : ℕ) (f : Fault) → Clear f → Clear (cond p (faultWith 13 n) (cond q (faultWith 19 n) (cond (not true) (faultWith 11 n) f)))
+clear-last : (p q : Bool) (n : ℕ) (f : Fault) → Clear f →
+    Clear (cond p (faultWith 13 n) (cond q (faultWith 19 n) (cond (not true) (faultWith 11 n) f)))
 clear-last true q n f c = clear-number 13 n (omega arith)
 clear-last false true n f c = clear-number 19 n (omega arith)
 clear-last false false n f c = c
@@ -97,7 +104,8 @@ pub clear-finish : (n : ℕ) (r : Reader) → isGood r ≡ true → isBody (r .p
 unfolding faultAtEnd
 clear-finish n r g b =
     rw ((faults-exact r g) .1 n, b)
-    (clear-last (r .stamp .opened && unclear r) (r .stamp .opened && excessive r) n (r .fault) (clear-good (r .fault) (eqb-true (r .fault .number) 0 g)))
+    (clear-last (r .stamp .opened && unclear r) (r .stamp .opened && excessive r) n (r .fault)
+    (clear-good (r .fault) (eqb-true (r .fault .number) 0 g)))
 
 -- ---- a time
 
@@ -124,7 +132,8 @@ time-stays r w = go (isGood (a .reader))
 
     ended : Stays r (a .reader)
     ended =
-        by-stamp (λ (x : Reader). Stays r x) (w .at) r (record { place = refl; variables = refl }) (record { place = refl; variables = refl })
+        by-stamp (λ (x : Reader). Stays r x) (w .at) r (record { place = refl; variables = refl })
+        (record { place = refl; variables = refl })
         (record { place = refl; variables = refl }) (record { place = refl; variables = refl }) (record { place = refl; variables = refl })
 
     go : (b : Bool) → Stays r ((cond b (readWith (openStamp (a .reader) w) (a .strobe)) a) .reader)

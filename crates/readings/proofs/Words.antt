@@ -28,7 +28,8 @@ closed-out end [] xs v m = later m
 closed-out end (b ∷ bs) xs v (here e) = this (omega arith) e
 closed-out end (b ∷ bs) xs v (there m) = later m
 
-closed-this : (end : ℕ) (w : List ℕ) (xs : List Word) (v : Word) → 0 < length w → v ≡ wordAt (end - length w) w → List·Memᴰ v (closed end w xs)
+closed-this : (end : ℕ) (w : List ℕ) (xs : List Word) (v : Word) → 0 < length w → v ≡ wordAt (end - length w) w →
+    List·Memᴰ v (closed end w xs)
 closed-this end [] xs v h e = absurd (not-suc-le-zero h)
 closed-this end (b ∷ bs) xs v h e = here e
 
@@ -53,7 +54,8 @@ same-byte T e = ap (λ (k : ℕ). getD T k 0) e
 next-byte : (T : List ℕ) (o at : ℕ) (w : List ℕ) (b : ℕ) (t : List ℕ) → State T o at w (b ∷ t) → b ≡ getD T at 0
 next-byte T o at w b t s = s .rest 0 (omega arith) ∙ same-byte T (omega arith)
 
-after-separator : (T : List ℕ) (o at : ℕ) (w : List ℕ) (b : ℕ) (t : List ℕ) → State T o at w (b ∷ t) → separator b ≡ true → State T (suc at) (suc at) [] t
+after-separator : (T : List ℕ) (o at : ℕ) (w : List ℕ) (b : ℕ) (t : List ℕ) → State T o at w (b ∷ t) → separator b ≡ true →
+    State T (suc at) (suc at) [] t
 after-separator T o at w b t s e =
     record {
       from = omega arith;
@@ -73,7 +75,8 @@ each-more P (c ∷ cs) b h p zero l = h 0 (omega arith)
 each-more P (c ∷ cs) b h p (suc i) l =
     each-more (λ (j x : ℕ). P (suc j) x) cs b (λ j q. h (suc j) (omega arith)) p i (le-of-suc-le-suc l)
 
-after-byte : (T : List ℕ) (o at : ℕ) (w : List ℕ) (b : ℕ) (t : List ℕ) → State T o at w (b ∷ t) → separator b ≡ false → State T o (suc at) (w ++ (b ∷ [])) t
+after-byte : (T : List ℕ) (o at : ℕ) (w : List ℕ) (b : ℕ) (t : List ℕ) → State T o at w (b ∷ t) → separator b ≡ false →
+    State T o (suc at) (w ++ (b ∷ [])) t
 after-byte T o at w b t s e =
     record {
       from = omega (arith, s .from, length-append w (b ∷ []));
@@ -135,7 +138,8 @@ module _ (T : List ℕ) (o at : ℕ) (w t : List ℕ) (s : State T o at w t) (st
             let l : length w < length (v .bytes) = ltb-true (length w) (length (v .bytes)) f in
             clash
             (stops (omega (arith, u .inside, begins-here, s .from)))
-            (ap separator (same-byte T {i = at} {j = v .at + length w} (omega (arith, begins-here, s .from)) ∙ sym (u .here (length w) l)) ∙ u .no-separator (length w) l)
+            (ap separator (same-byte T {i = at} {j = v .at + length w} (omega (arith, begins-here, s .from)) ∙ sym
+            (u .here (length w) l)) ∙ u .no-separator (length w) l)
         go (off e) (off f) =
             omega (arith, ltb-false (length (v .bytes)) (length w) e, ltb-false (length w) (length (v .bytes)) f)
 
@@ -155,7 +159,8 @@ unfolding Stops
 stops-at-separator T o at w b t s e l = ap separator (sym (next-byte T o at w b t s)) ∙ e
 
 -- the word under way stands where it began
-this-run : (T : List ℕ) (o at : ℕ) (w t : List ℕ) → State T o at w t → Stops T at → (v : Word) → 0 < length w → v ≡ wordAt (at - length w) w → Run T v × (o ≤ v .at)
+this-run : (T : List ℕ) (o at : ℕ) (w t : List ℕ) → State T o at w t → Stops T at → (v : Word) → 0 < length w →
+    v ≡ wordAt (at - length w) w → Run T v × (o ≤ v .at)
 this-run T o at w t s stops v h e =
     let f : v ≡ wordAt o w = e ∙ ap (λ (k : ℕ). wordAt k w) (omega (arith, s .from)) in
     rw f (run T o at w t s stops h, omega arith)
@@ -173,7 +178,8 @@ sound T o at w (b ∷ t) s v m =
     go (separator b) refl (λ e. sound T (suc at) (suc at) [] t (after-separator T o at w b t s e) v)
     (λ e. sound T o (suc at) (w ++ (b ∷ [])) t (after-byte T o at w b t s e) v) m
   where
-    closing : separator b ≡ true → (List·Memᴰ v (cut (suc at) [] t) → Run T v × (suc at ≤ v .at)) → Closed at w (cut (suc at) [] t) v → Run T v × (o ≤ v .at)
+    closing : separator b ≡ true → (List·Memᴰ v (cut (suc at) [] t) → Run T v × (suc at ≤ v .at)) →
+        Closed at w (cut (suc at) [] t) v → Run T v × (o ≤ v .at)
     closing e next (this h f) = this-run T o at w (b ∷ t) s (stops-at-separator T o at w b t s e) v h f
     closing e next (later l) = ((next l) .0, omega (arith, (next l) .1, s .from))
 
@@ -196,7 +202,8 @@ complete T o at w (b ∷ t) s v u low =
     go (separator b) refl (λ e. complete T (suc at) (suc at) [] t (after-separator T o at w b t s e) v u)
     (λ e. complete T o (suc at) (w ++ (b ∷ [])) t (after-byte T o at w b t s e) v u low)
   where
-    closing : separator b ≡ true → (suc at ≤ v .at → List·Memᴰ v (cut (suc at) [] t)) → Flag (ltb (v .at) at) → Flag (ltb at (v .at)) → List·Memᴰ v (closed at w (cut (suc at) [] t))
+    closing : separator b ≡ true → (suc at ≤ v .at → List·Memᴰ v (cut (suc at) [] t)) → Flag (ltb (v .at) at) →
+        Flag (ltb at (v .at)) → List·Memᴰ v (closed at w (cut (suc at) [] t))
     closing e next (on f) g =
         let high : v .at < at = ltb-true (v .at) at f in
         let x : v ≡ wordAt o w = same-word T o at w (b ∷ t) s (stops-at-separator T o at w b t s e) v u low high in
@@ -206,7 +213,8 @@ complete T o at w (b ∷ t) s v u low =
         clash e
         (ap separator
         (next-byte T o at w b t s ∙
-        same-byte T {i = at} {j = v .at + 0} (omega (arith, ltb-false (v .at) at f, ltb-false at (v .at) g)) ∙ sym (u .here 0 (u .some-byte))) ∙
+        same-byte T {i = at} {j = v .at + 0} (omega (arith, ltb-false (v .at) at f, ltb-false at (v .at) g)) ∙ sym
+        (u .here 0 (u .some-byte))) ∙
         u .no-separator 0 (u .some-byte))
 
     go : (x : Bool) → separator b ≡ x → (separator b ≡ true → suc at ≤ v .at → List·Memᴰ v (cut (suc at) [] t)) →
@@ -221,7 +229,8 @@ rising-cons : (v : Word) (ws : List Word) → ((w : Word) → List·Memᴰ w ws 
 rising-cons v [] h r = one v
 rising-cons v (w ∷ ws) h r = more v w ws (h w (here refl)) r
 
-rising-closed : (end : ℕ) (w : List ℕ) (ws : List Word) → ((v : Word) → List·Memᴰ v ws → end < v .at) → Rising ws → Rising (closed end w ws)
+rising-closed : (end : ℕ) (w : List ℕ) (ws : List Word) → ((v : Word) → List·Memᴰ v ws → end < v .at) → Rising ws →
+    Rising (closed end w ws)
 rising-closed end [] ws h r = r
 rising-closed end (b ∷ bs) ws h r = rising-cons (wordAt (end - suc (length bs)) (b ∷ bs)) ws (λ v m. omega (arith, h v m)) r
 
@@ -232,7 +241,8 @@ rising T o at w (b ∷ t) s =
     go (separator b) refl (λ e. rising T (suc at) (suc at) [] t (after-separator T o at w b t s e))
     (λ e. rising T o (suc at) (w ++ (b ∷ [])) t (after-byte T o at w b t s e))
   where
-    go : (x : Bool) → separator b ≡ x → (separator b ≡ true → Rising (cut (suc at) [] t)) → (separator b ≡ false → Rising (cut (suc at) (w ++ (b ∷ [])) t)) →
+    go : (x : Bool) → separator b ≡ x → (separator b ≡ true → Rising (cut (suc at) [] t)) →
+        (separator b ≡ false → Rising (cut (suc at) (w ++ (b ∷ [])) t)) →
         Rising (cond x (closed at w (cut (suc at) [] t)) (cut (suc at) (w ++ (b ∷ [])) t))
     go true e p q =
         rising-closed at w (cut (suc at) [] t) (λ v m. (sound T (suc at) (suc at) [] t (after-separator T o at w b t s e) v m) .1) (p e)

@@ -59,7 +59,8 @@ pub data Change (ds : List Declaration) : List Word → List Word → Type 0 whe
   scalar : {w : Word} {ws : List Word} (d : Declaration) (v : ℕ) →
       List·Memᴰ d ds → d .name ≡ nameOf Stb → isBit v ≡ true → w .bytes ≡ v ∷ d .code → Change ds (w ∷ ws) ws
   vector : {w c : Word} {ws : List Word} (d : Declaration) →
-      List·Memᴰ d ds → d .name ≢ nameOf Stb → isVector (w .bytes) ≡ true → length (tail (w .bytes)) ≤ d .width → c .bytes ≡ d .code → Change ds (w ∷ c ∷ ws) ws
+      List·Memᴰ d ds → d .name ≢ nameOf Stb → isVector (w .bytes) ≡ true → length (tail (w .bytes)) ≤ d .width → c .bytes ≡ d .code →
+      Change ds (w ∷ c ∷ ws) ws
 
 pub data Changes (ds : List Declaration) : List Word → List Word → Type 0 where
   ends : {w : Word} {ws : List Word} → Is "$end" w → Changes ds (w ∷ ws) ws
@@ -77,8 +78,10 @@ pub data Items (ds : List Declaration) : List Word → Type 0 where
 -- ---- the definitions
 
 pub data Definitions : List Declaration → List Word → Type 0 where
-  skip : {ds : List Declaration} {w : Word} {ws rest : List Word} → isSkipped (w .bytes) ≡ true → Skipped ws rest → Definitions ds rest → Definitions ds (w ∷ ws)
+  skip : {ds : List Declaration} {w : Word} {ws rest : List Word} → isSkipped (w .bytes) ≡ true → Skipped ws rest →
+      Definitions ds rest → Definitions ds (w ∷ ws)
   var : {ds : List Declaration} {v i w c n e : Word} {ws : List Word} →
       Is "$var" v → Is "wire" i → isDecimal (w .bytes) ≡ true → isCode (c .bytes) ≡ true → Is "$end" e →
       Definitions (declaration (n .bytes) (decimal (w .bytes)) (c .bytes) ∷ ds) ws → Definitions ds (v ∷ i ∷ w ∷ c ∷ n ∷ e ∷ ws)
-  end : {ds : List Declaration} {v e : Word} {ws : List Word} → Is "$enddefinitions" v → Is "$end" e → Complete ds → Items ds ws → Definitions ds (v ∷ e ∷ ws)
+  end : {ds : List Declaration} {v e : Word} {ws : List Word} → Is "$enddefinitions" v → Is "$end" e → Complete ds → Items ds ws →
+      Definitions ds (v ∷ e ∷ ws)

@@ -61,7 +61,8 @@ readerWith p pending vs stamp taken fault =
 abbrev pub start : Reader
 start =
     readerWith Definition (pendingWith 0 0 (record { length = 0; value = unknown }))
-    (variablesWith (variableWith 0 0 (value true 0)) (variableWith 0 0 unknown) (variableWith 0 0 unknown) (variableWith 0 0 unknown) (variableWith 0 0 unknown))
+    (variablesWith (variableWith 0 0 (value true 0)) (variableWith 0 0 unknown) (variableWith 0 0 unknown) (variableWith 0 0 unknown)
+    (variableWith 0 0 unknown))
     (stampWith false 0 false) 0 (faultWith 0 0)
 
 abbrev pub variable : Reader → Signal → Variable

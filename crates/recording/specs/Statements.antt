@@ -84,7 +84,8 @@ pub data Shown (t : List ℕ) (offset : ℕ) : Type 0 where
 abbrev pub FaultsShown : Type 0
 FaultsShown =
     (t : List ℕ) →
-    List·Memᴰ ((reading t) .number) (0 ∷ 11 ∷ 12 ∷ 13 ∷ 14 ∷ 19 ∷ []) × Shown t ((reading t) .offset) × ((reading t) .number ≡ 0 → (reading t) .offset ≡ length t)
+    List·Memᴰ ((reading t) .number) (0 ∷ 11 ∷ 12 ∷ 13 ∷ 14 ∷ 19 ∷ []) × Shown t ((reading t) .offset) ×
+    ((reading t) .number ≡ 0 → (reading t) .offset ≡ length t)
 
 abbrev pub AtMost65535 : Type 0
 AtMost65535 = (t : List ℕ) → length ((reading t) .commands) ≤ 65535
@@ -96,4 +97,5 @@ AtMost65535 = (t : List ℕ) → length ((reading t) .commands) ≤ 65535
 abbrev pub GrammarExact : Type 0
 GrammarExact =
     (t : List ℕ) →
-    ((reading t) .number ≡ 0 → Definitions [] (words t)) × (Definitions [] (words t) → ((reading t) .number ≢ 11) × ((reading t) .number ≢ 12))
+    ((reading t) .number ≡ 0 → Definitions [] (words t)) ×
+    (Definitions [] (words t) → ((reading t) .number ≢ 11) × ((reading t) .number ≢ 12))

@@ -81,7 +81,8 @@ definitions =
 unfoldable pub declared : Reader
 declared =
     readerWith Body (pendingWith 9 37 (record { length = 0; value = unknown }))
-    (variablesWith (variableWith 33 1 (value true 0)) (variableWith 34 3 unknown) (variableWith 35 5 unknown) (variableWith 36 8 unknown) (variableWith 37 9 unknown))
+    (variablesWith (variableWith 33 1 (value true 0)) (variableWith 34 3 unknown) (variableWith 35 5 unknown)
+    (variableWith 36 8 unknown) (variableWith 37 9 unknown))
     (stampWith false 0 false) 0 (faultWith 0 0)
 
 unfoldable pub bodies : List Case
