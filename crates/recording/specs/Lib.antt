@@ -5,16 +5,18 @@
 --   Declarations  the five variables, their names and widths
 --   Stamps        the end of a stamp: the command that is taken, faults 13 and 19
 --   Reading       what each word does at its place, the end of the text, and the whole reading
+--   Replay        the replay from a fresh controller
 --   Faults        when each fault is shown, number by number, and their order
 --   Grammar       the grammar as derivations, beside the reading
 --   Texts         worked texts, with what each of them says
---   Statements    what is claimed of all this, as propositions; their proofs are in the crate above this one
+--   Statements    what is claimed of all this, as propositions; their proofs are in the crates above this one
 pub mod Words
 pub mod Values
 pub mod Records
 pub mod Declarations
 pub mod Stamps
 pub mod Reading
+pub mod Replay
 pub mod Faults
 pub mod Grammar
 pub mod Texts

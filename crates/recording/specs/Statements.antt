@@ -1,4 +1,5 @@
--- What is claimed of the readings. Propositions only; each is proved in the crate `readings`. Assumes nothing.
+-- What is claimed of the readings. Propositions only; each is proved in the crate `readings`, those of the replay in `replay`. Assumes
+-- nothing.
 -- Source: document 01, "The bus monitor's text"; request 1/14.
 use Prim.Native.Nat.{ℕ, suc, _+_, _<_, _≤_}
 use mathlib.Core.Path.{_≡_}
@@ -6,12 +7,16 @@ use mathlib.Core.Logic.{_↔_, _≢_}
 use mathlib.Core.List.{List, [], _∷_, _++_, map, List·Memᴰ}
 use mathlib.Core.Bool.{true, false}
 use lib.ListN.{length, getD}
+use Rattle.model.specs.Records.{reset}
+use Rattle.model.specs.Ledger.{opening, ledger, entries}
+use Rattle.model.specs.Statements.{InRange, PriorityStrict}
 use Rattle.recording.specs.declared.Reader.{Reader}
 use Rattle.recording.specs.Words.{separator, Word, words}
 use Rattle.recording.specs.Values.{Bit, bx, bz, bitNumber, numeral, extended, valueOf}
 use Rattle.recording.specs.Records.{start}
 use Rattle.recording.specs.Reading.{isGood, readWord, finish, Progress, progress, readWords, reading}
 use Rattle.recording.specs.Faults.{endsStamp, faultAt, faultAtEnd, takenAt}
+use Rattle.recording.specs.Replay.{replayWith, replayFrom, replayed}
 use Rattle.recording.specs.Grammar.{Definitions}
 use Rattle.recording.specs.Texts.{says}
 
@@ -99,3 +104,21 @@ GrammarExact =
     (t : List ℕ) →
     ((reading t) .number ≡ 0 → Definitions [] (words t)) ×
     (Definitions [] (words t) → ((reading t) .number ≢ 11) × ((reading t) .number ≢ 12))
+
+-- ---- the replay
+
+-- For sizes in range the number and offset of the reading, the state after its commands from a fresh controller, and an answer for
+-- each command; else 2 at offset 0, whatever the text.
+pub record Replays (n m : ℕ) (t : List ℕ) : Type 0 where
+  pub inside : InRange n m → replayed n m t ≡ replayFrom (reset n m) (reading t)
+  pub outside : ¬ InRange n m → replayed n m t ≡ replayWith 2 0 (reset 1 1) []
+  pub answered : InRange n m → length ((replayed n m t) .answers) ≡ length ((reading t) .commands)
+
+abbrev pub ReplayExact : Type 0
+ReplayExact = (n m : ℕ) (t : List ℕ) → Replays n m t
+
+-- Demand 3 of a replay, whatever the text: also where a fault ended its reading.
+abbrev pub ReplayStrict : Type 0
+ReplayStrict =
+    (n m : ℕ) (t : List ℕ) → InRange n m →
+    PriorityStrict n m (ledger opening (entries (reset n m) ((reading t) .commands))) ((replayed n m t) .state)

@@ -1,0 +1,2 @@
+-- What holds of every replay.
+pub mod Theorem
