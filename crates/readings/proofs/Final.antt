@@ -14,9 +14,8 @@ use Rattle.recording.specs.declared.Read.{Read}
 use Rattle.recording.specs.Words.{Word, cut, words}
 use Rattle.recording.specs.Records.{start, faultWith, only}
 use Rattle.recording.specs.Stamps.{commandsOf}
-use Rattle.recording.specs.Reading.{isBody, isGood, readWord, finish, Progress, progress, advance, readWords, finished, answered, reading}
+use Rattle.recording.specs.Reading.{isBody, isGood, readWord, finish, Progress, progress, advance, readWords, finished, readingWith, answered, reading}
 use Rattle.recording.specs.Faults.{endsStamp, unclear, excessive, fitsIn, declaresWell, isLate, faultAt, faultAtEnd}
-use Rattle.recording.specs.Texts.{says}
 use Rattle.recording.specs.Statements.{upTo, FaultIsFinal, Shown, at-word, at-end, FaultsShown}
 use Rattle.readings.proofs.Cutting.{cut-joined, readWords-joined}
 use Rattle.readings.proofs.Faults.{faults-exact}
@@ -47,9 +46,9 @@ unfolding finished
 bad-finished n p bad = ap (advance (p .commands)) (bad-finish n (p .reader) bad) ∙ advance-only p
 
 bad-answered : (n : ℕ) (p : Progress) → isGood (p .reader) ≡ false →
-    answered n p ≡ says (p .commands) (p .reader .fault .number) (p .reader .fault .offset)
+    answered n p ≡ readingWith (p .commands) (p .reader .fault .number) (p .reader .fault .offset)
 unfolding answered
-bad-answered n p bad = ap (λ (b : Bool). says (p .commands) (p .reader .fault .number) (cond b n (p .reader .fault .offset))) bad
+bad-answered n p bad = ap (λ (b : Bool). readingWith (p .commands) (p .reader .fault .number) (cond b n (p .reader .fault .offset))) bad
 
 pub fault-is-final : FaultIsFinal
 unfolding reading

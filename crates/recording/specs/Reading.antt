@@ -205,13 +205,12 @@ pub record Reading : Type 0 where
   pub number : ℕ
   pub offset : ℕ
 
+abbrev pub readingWith : List Command → ℕ → ℕ → Reading
+readingWith commands number offset = record { commands = commands; number = number; offset = offset }
+
 unfoldable pub answered : ℕ → Progress → Reading
 answered n p =
-    record {
-      commands = p .commands;
-      number = p .reader .fault .number;
-      offset = cond (isGood (p .reader)) n (p .reader .fault .offset);
-    }
+    readingWith (p .commands) (p .reader .fault .number) (cond (isGood (p .reader)) n (p .reader .fault .offset))
 
 unfoldable pub reading : List ℕ → Reading
 reading t = answered (length t) (finished (length t) (readWords (progress start []) (words t)))

@@ -19,7 +19,7 @@ use Rattle.recording.specs.declared.Fault.{Fault}
 use Rattle.recording.specs.declared.Reader.{Reader}
 use Rattle.recording.specs.declared.Strobe.{Strobe}
 use Rattle.recording.specs.declared.Read.{Read}
-use Rattle.recording.specs.Values.{value, unknown}
+use Rattle.recording.specs.Values.{value, unknown, vectorWith}
 
 -- ---- variables
 
@@ -60,7 +60,7 @@ readerWith p pending vs stamp taken fault =
 
 abbrev pub start : Reader
 start =
-    readerWith Definition (pendingWith 0 0 (record { length = 0; value = unknown }))
+    readerWith Definition (pendingWith 0 0 (vectorWith 0 unknown))
     (variablesWith (variableWith 0 0 (value true 0)) (variableWith 0 0 unknown) (variableWith 0 0 unknown) (variableWith 0 0 unknown)
     (variableWith 0 0 unknown))
     (stampWith false 0 false) 0 (faultWith 0 0)

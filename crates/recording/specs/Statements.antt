@@ -14,11 +14,10 @@ use Rattle.recording.specs.declared.Reader.{Reader}
 use Rattle.recording.specs.Words.{separator, Word, words}
 use Rattle.recording.specs.Values.{Bit, bx, bz, bitNumber, numeral, extended, valueOf}
 use Rattle.recording.specs.Records.{start}
-use Rattle.recording.specs.Reading.{isGood, readWord, finish, Progress, progress, readWords, reading}
+use Rattle.recording.specs.Reading.{isGood, readWord, finish, Progress, progress, readWords, readingWith, reading}
 use Rattle.recording.specs.Faults.{endsStamp, faultAt, faultAtEnd, takenAt}
 use Rattle.recording.specs.Replay.{replayWith, replayFrom, replayed}
 use Rattle.recording.specs.Grammar.{Definitions}
-use Rattle.recording.specs.Texts.{says}
 
 -- ---- words
 
@@ -78,7 +77,7 @@ upTo t = readWords (progress start []) (words t)
 abbrev pub FaultIsFinal : Type 0
 FaultIsFinal =
     (t u : List ℕ) (b : ℕ) → separator b ≡ true → isGood ((upTo t) .reader) ≡ false →
-    reading (t ++ (b ∷ u)) ≡ says ((upTo t) .commands) ((upTo t) .reader .fault .number) ((upTo t) .reader .fault .offset)
+    reading (t ++ (b ∷ u)) ≡ readingWith ((upTo t) .commands) ((upTo t) .reader .fault .number) ((upTo t) .reader .fault .offset)
 
 -- A word of the text stands at this offset, or the text ends there.
 pub data Shown (t : List ℕ) (offset : ℕ) : Type 0 where

@@ -15,19 +15,16 @@ use Rattle.model.specs.Records.{sourceId, coreId}
 use Rattle.recording.specs.declared.Place.the-variants.{Body}
 use Rattle.recording.specs.declared.Reader.{Reader}
 use Rattle.recording.specs.Words.{bytesOf, words}
-use Rattle.recording.specs.Values.{value, unknown}
+use Rattle.recording.specs.Values.{value, unknown, vectorWith}
 use Rattle.recording.specs.Records.{variableWith, variablesWith, pendingWith, stampWith, faultWith, readerWith, withTaken}
-use Rattle.recording.specs.Reading.{progress, readWords, finished, Reading, answered}
+use Rattle.recording.specs.Reading.{progress, readWords, finished, Reading, readingWith, answered}
 
 pub record Case : Type 0 where
   pub text : String
   pub says : Reading
 
-abbrev pub says : List Command → ℕ → ℕ → Reading
-says commands number offset = record { commands = commands; number = number; offset = offset }
-
 case : String → List Command → ℕ → ℕ → Case
-case text commands number offset = record { text = text; says = says commands number offset }
+case text commands number offset = record { text = text; says = readingWith commands number offset }
 
 trigger : ℕ → Command
 trigger id = Trigger (sourceId id)
@@ -80,7 +77,7 @@ definitions =
 -- The reader after them. A code of one byte spells that byte.
 unfoldable pub declared : Reader
 declared =
-    readerWith Body (pendingWith 9 37 (record { length = 0; value = unknown }))
+    readerWith Body (pendingWith 9 37 (vectorWith 0 unknown))
     (variablesWith (variableWith 33 1 (value true 0)) (variableWith 34 3 unknown) (variableWith 35 5 unknown)
     (variableWith 36 8 unknown) (variableWith 37 9 unknown))
     (stampWith false 0 false) 0 (faultWith 0 0)

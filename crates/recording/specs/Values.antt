@@ -91,6 +91,9 @@ unknown = value false 0
 unfoldable pub valueOf : List Bit → Value
 valueOf bs = cond (all isDefinite bs) (value true (min 65535 (numeral 2 0 (map bitNumber bs)))) unknown
 
+abbrev pub vectorWith : ℕ → Value → Vector
+vectorWith length v = record { length = length; value = v }
+
 -- The value of the bits given is that of the vector extended to its variable's width (`ExtensionValue`).
 unfoldable pub vectorOf : List ℕ → Vector
-vectorOf w = record { length = min 255 (length w); value = valueOf (map bitOf w) }
+vectorOf w = vectorWith (min 255 (length w)) (valueOf (map bitOf w))
