@@ -27,3 +27,4 @@ pub mod FailsThree
 pub mod FailsRefusals
 pub mod Hollow
 pub mod Limits
+pub mod Replays

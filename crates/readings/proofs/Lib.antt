@@ -1,0 +1,26 @@
+-- What holds of every reading of a recording.
+--   Lists, Codes    tests over lists; words, names and codes told apart
+--   Cutting         how words and readings go over a text that is joined
+--   Words           words are exactly the longest runs of bytes that are no separators
+--   Extension       the value of an extended vector
+--   Faults          which fault and which command a word shows
+--   Final           what follows a fault changes nothing; where a fault is shown
+--   Counted         at most 65,535 commands
+--   Agreement       a reader's variables and the declarations of the grammar
+--   Steps           words that show no fault of the grammar
+--   Derived         a text read without a fault is derived
+--   Followed        a derived text shows neither 11 nor 12
+--   Grammar         both
+pub mod Lists
+pub mod Codes
+pub mod Cutting
+pub mod Words
+pub mod Extension
+pub mod Faults
+pub mod Final
+pub mod Counted
+pub mod Agreement
+pub mod Steps
+pub mod Derived
+pub mod Followed
+pub mod Grammar

@@ -1,0 +1,2 @@
+-- What is proved of a recording's definitions.
+pub mod Examples

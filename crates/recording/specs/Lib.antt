@@ -1,0 +1,23 @@
+-- What a recording says: every definition of it that a reader must believe, in the order of document 01, "The bus monitor's text".
+--   Words         bytes of a quoted text; words with their offsets
+--   Values        decimal numbers, codes, bits, vectors and their extension
+--   Records       the reader's records, and every literal of them
+--   Declarations  the five variables, their names and widths
+--   Stamps        the end of a stamp: the command that is taken, faults 13 and 19
+--   Reading       what each word does at its place, the end of the text, and the whole reading
+--   Replay        the replay from a fresh controller
+--   Faults        when each fault is shown, number by number, and their order
+--   Grammar       the grammar as derivations, beside the reading
+--   Texts         worked texts, with what each of them says
+--   Statements    what is claimed of all this, as propositions; their proofs are in the crates above this one
+pub mod Words
+pub mod Values
+pub mod Records
+pub mod Declarations
+pub mod Stamps
+pub mod Reading
+pub mod Replay
+pub mod Faults
+pub mod Grammar
+pub mod Texts
+pub mod Statements

@@ -1,0 +1,123 @@
+-- What is claimed of the readings. Propositions only; each is proved in the crate `readings`, those of the replay in `replay`. Assumes
+-- nothing.
+-- Source: document 01, "The bus monitor's text"; request 1/14.
+use Prim.Native.Nat.{ℕ, suc, _+_, _<_, _≤_}
+use mathlib.Core.Path.{_≡_}
+use mathlib.Core.Logic.{_↔_, _≢_}
+use mathlib.Core.List.{List, [], _∷_, _++_, map, List·Memᴰ}
+use mathlib.Core.Bool.{true, false}
+use lib.ListN.{length, getD}
+use Rattle.model.specs.Records.{reset}
+use Rattle.model.specs.Ledger.{opening, ledger, entries}
+use Rattle.model.specs.Statements.{InRange, PriorityStrict}
+use Rattle.recording.specs.declared.Reader.{Reader}
+use Rattle.recording.specs.Words.{separator, Word, words}
+use Rattle.recording.specs.Values.{Bit, bx, bz, bitNumber, numeral, extended, valueOf}
+use Rattle.recording.specs.Records.{start}
+use Rattle.recording.specs.Reading.{isGood, readWord, finish, Progress, progress, readWords, readingWith, reading}
+use Rattle.recording.specs.Faults.{endsStamp, faultAt, faultAtEnd, takenAt}
+use Rattle.recording.specs.Replay.{replayWith, replayFrom, replayed}
+use Rattle.recording.specs.Grammar.{Definitions}
+
+-- ---- words
+
+-- The word is a longest run of bytes of t that are no separators, and stands where it says.
+pub record Run (t : List ℕ) (w : Word) : Type 0 where
+  pub some-byte : 0 < length (w .bytes)
+  pub inside : w .at + length (w .bytes) ≤ length t
+  pub here : (i : ℕ) → i < length (w .bytes) → getD (w .bytes) i 0 ≡ getD t (w .at + i) 0
+  pub no-separator : (i : ℕ) → i < length (w .bytes) → separator (getD (w .bytes) i 0) ≡ false
+  pub begins : (i : ℕ) → suc i ≡ w .at → separator (getD t i 0) ≡ true
+  pub ends : w .at + length (w .bytes) < length t → separator (getD t (w .at + length (w .bytes)) 0) ≡ true
+
+-- Each word stands before the next.
+pub data Rising : List Word → Type 0 where
+  none : Rising []
+  one : (w : Word) → Rising (w ∷ [])
+  more : (v w : Word) (ws : List Word) → v .at < w .at → Rising (w ∷ ws) → Rising (v ∷ w ∷ ws)
+
+-- The words of a text are exactly its longest runs of bytes that are no separators, each once, first to last.
+abbrev pub WordsExact : Type 0
+WordsExact = (t : List ℕ) → ((w : Word) → List·Memᴰ w (words t) ↔ Run t w) × Rising (words t)
+
+-- ---- values
+
+-- A vector of at least one bit and no longer than its variable, extended to the variable's width.
+pub record Extension (width : ℕ) (bs : List Bit) : Type 0 where
+  pub long : length (extended width bs) ≡ width
+  -- the value is that of the bits given
+  pub same : valueOf (extended width bs) ≡ valueOf bs
+  -- it isn't known exactly if they hold an x or z
+  pub known : ((valueOf bs) .known ≡ true) ↔ ((b : Bit) → List·Memᴰ b bs → (b ≢ bx) × (b ≢ bz))
+  -- a number of at most 16 bits is not held
+  pub number : length bs ≤ 16 → (valueOf bs) .known ≡ true → (valueOf bs) .number ≡ numeral 2 0 (map bitNumber bs)
+
+abbrev pub ExtensionValue : Type 0
+ExtensionValue = (width : ℕ) (bs : List Bit) → 0 < length bs → length bs ≤ width → Extension width bs
+
+-- ---- faults and commands
+
+-- Each number is shown exactly when its condition says, no earlier one holding, at the offset of the word or of the text's end.
+abbrev pub FaultsExact : Type 0
+FaultsExact =
+    (r : Reader) → isGood r ≡ true →
+    ((w : Word) → (readWord r w) .reader .fault ≡ faultAt r w) × ((n : ℕ) → (finish n r) .reader .fault ≡ faultAtEnd n r)
+
+-- A command is taken exactly where a stamp ends with a strobe and neither 13 nor 19, also at the word of another fault.
+abbrev pub StrobesExact : Type 0
+StrobesExact =
+    (r : Reader) → isGood r ≡ true →
+    ((w : Word) → (readWord r w) .strobe ≡ takenAt (endsStamp r w) r) × ((n : ℕ) → (finish n r) .strobe ≡ takenAt (r .stamp .opened) r)
+
+-- The words of a text, read to the last.
+abbrev pub upTo : List ℕ → Progress
+upTo t = readWords (progress start []) (words t)
+
+-- What follows a fault changes nothing, whatever it is.
+abbrev pub FaultIsFinal : Type 0
+FaultIsFinal =
+    (t u : List ℕ) (b : ℕ) → separator b ≡ true → isGood ((upTo t) .reader) ≡ false →
+    reading (t ++ (b ∷ u)) ≡ readingWith ((upTo t) .commands) ((upTo t) .reader .fault .number) ((upTo t) .reader .fault .offset)
+
+-- A word of the text stands at this offset, or the text ends there.
+pub data Shown (t : List ℕ) (offset : ℕ) : Type 0 where
+  at-word : (w : Word) → List·Memᴰ w (words t) → w .at ≡ offset → Shown t offset
+  at-end : length t ≡ offset → Shown t offset
+
+-- The number of a fault is one of five, and it is shown at a word or at the text's end; without a fault the offset is the text's length.
+abbrev pub FaultsShown : Type 0
+FaultsShown =
+    (t : List ℕ) →
+    List·Memᴰ ((reading t) .number) (0 ∷ 11 ∷ 12 ∷ 13 ∷ 14 ∷ 19 ∷ []) × Shown t ((reading t) .offset) ×
+    ((reading t) .number ≡ 0 → (reading t) .offset ≡ length t)
+
+abbrev pub AtMost65535 : Type 0
+AtMost65535 = (t : List ℕ) → length ((reading t) .commands) ≤ 65535
+
+-- ---- the grammar
+
+-- A text read without a fault is derived by the grammar, and a derived text shows neither 11 nor 12. Of what follows a 13, 14 or 19
+-- nothing is said: the reading ended there.
+abbrev pub GrammarExact : Type 0
+GrammarExact =
+    (t : List ℕ) →
+    ((reading t) .number ≡ 0 → Definitions [] (words t)) ×
+    (Definitions [] (words t) → ((reading t) .number ≢ 11) × ((reading t) .number ≢ 12))
+
+-- ---- the replay
+
+-- For sizes in range the number and offset of the reading, the state after its commands from a fresh controller, and an answer for
+-- each command; else 2 at offset 0, whatever the text.
+pub record Replays (n m : ℕ) (t : List ℕ) : Type 0 where
+  pub inside : InRange n m → replayed n m t ≡ replayFrom (reset n m) (reading t)
+  pub outside : ¬ InRange n m → replayed n m t ≡ replayWith 2 0 (reset 1 1) []
+  pub answered : InRange n m → length ((replayed n m t) .answers) ≡ length ((reading t) .commands)
+
+abbrev pub ReplayExact : Type 0
+ReplayExact = (n m : ℕ) (t : List ℕ) → Replays n m t
+
+-- Demand 3 of a replay, whatever the text: also where a fault ended its reading.
+abbrev pub ReplayStrict : Type 0
+ReplayStrict =
+    (n m : ℕ) (t : List ℕ) → InRange n m →
+    PriorityStrict n m (ledger opening (entries (reset n m) ((reading t) .commands))) ((replayed n m t) .state)
