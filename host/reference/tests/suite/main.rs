@@ -8,6 +8,7 @@ mod every_history;
 mod faulty;
 mod generators;
 mod histories;
+mod recording;
 mod sellers_errors;
 mod table_of_runs;
 mod well_formed;
