@@ -293,15 +293,14 @@ impl<'t, W: Iterator<Item = Word<'t>>> Reader<'t, W> {
     /// "Then, in any order: a time ..; a change ..; $comment; $dumpvars, $dumpall, $dumpon and
     /// $dumpoff, each with changes only up to $end."
     fn dump(&mut self) -> Result<(), Fault> {
+        const EXPECTED: &str = "a time, a bit joined to the code of stb, b joined to bits, \
+             $comment, $dumpvars, $dumpall, $dumpon or $dumpoff";
         while let Some(word) = self.words.next() {
             match word.bytes {
                 [b'#', digits @ ..] => self.time(word, digits)?,
                 b"$comment" => self.skip()?,
                 b"$dumpvars" | b"$dumpall" | b"$dumpon" | b"$dumpoff" => self.block()?,
-                _ => self.change(
-                    word,
-                    "a time, a change, $comment, $dumpvars, $dumpall, $dumpon or $dumpoff",
-                )?,
+                _ => self.change(word, EXPECTED)?,
             }
         }
         Ok(())
@@ -309,7 +308,8 @@ impl<'t, W: Iterator<Item = Word<'t>>> Reader<'t, W> {
 
     /// Changes only, up to `$end`. A word that starts with # is no time here and ends no stamp.
     fn block(&mut self) -> Result<(), Fault> {
-        const EXPECTED: &str = "a change, or $end to close the block";
+        const EXPECTED: &str =
+            "a bit joined to the code of stb, b joined to bits, or $end to close the block";
         loop {
             let word = self.next(EXPECTED)?;
             match word.bytes {
@@ -509,7 +509,7 @@ impl fmt::Display for Reason {
     /// What was expected, in plain words.
     fn fmt(&self, f: &mut fmt::Formatter) -> fmt::Result {
         match *self {
-            Reason::Sizes => write!(f, "1 to 128 sources and 1 to 32 cores were expected"),
+            Reason::Sizes => write!(f, "expected 1 to 128 sources and 1 to 32 cores"),
             Reason::Expected(what) => write!(f, "expected {what}"),
             Reason::TimeTooLarge => write!(f, "expected a time of at most {}", u64::MAX),
             Reason::VectorTooLong(variable) => {
@@ -578,10 +578,14 @@ impl Fault {
     }
 }
 
-/// A word as it is shown to a person: its beginning, other bytes than visible ones escaped.
+/// A word as it is shown to a person: its beginning, with bytes that can't be seen in hexadecimal.
 fn shown(word: &[u8]) -> String {
     const LONGEST: usize = 40;
-    let beginning = &word[..word.len().min(LONGEST)];
+    let seen = |&byte: &u8| match byte {
+        33..=126 => char::from(byte).to_string(),
+        _ => format!("\\x{byte:02x}"),
+    };
+    let beginning: String = word.iter().take(LONGEST).map(seen).collect();
     let rest = if word.len() > LONGEST { ".." } else { "" };
-    format!("`{}`{rest}", beginning.escape_ascii())
+    format!("`{beginning}`{rest}")
 }

@@ -40,9 +40,9 @@ fn unmarked(marked: &str) -> (Vec<u8>, usize) {
     (text, offset)
 }
 
-/// The whole text gives this number at the mark, and these commands.
+/// The text gives this number at the mark, and these commands.
 #[track_caller]
-fn whole(marked: &str, number: u8, commands: &[Command]) -> Option<Fault> {
+fn reads(marked: &str, number: u8, commands: &[Command]) -> Option<Fault> {
     let (text, offset) = unmarked(marked);
     let reading = read(&text);
     // The end of a long text is enough to find it by.
@@ -61,23 +61,23 @@ fn whole(marked: &str, number: u8, commands: &[Command]) -> Option<Fault> {
     reading.fault
 }
 
-/// The same of a text that begins with these words and then declares all variables.
+/// The same of a text that ends with these words, after definitions with document 01's codes.
 #[track_caller]
-fn stamps(marked: &str, number: u8, commands: &[Command]) {
+fn reads_stamps(marked: &str, number: u8, commands: &[Command]) {
     let definitions = format!("{DECLARED}$enddefinitions $end\n");
-    whole(&(definitions + marked), number, commands);
+    reads(&(definitions + marked), number, commands);
 }
 
-/// The same of definitions that stand before the others, if there are any, and before a strobe of
-/// trigger 4.
+/// The same of a text that begins with these definitions and ends with a strobe of trigger 4, which
+/// is taken if they show no fault.
 #[track_caller]
-fn definitions(marked: &str, number: u8) {
+fn reads_definitions(marked: &str, number: u8) {
     let commands = if number == 0 {
         vec![trigger(4)]
     } else {
         vec![]
     };
-    whole(
+    reads(
         &format!("{marked} $enddefinitions $end {STROBE}"),
         number,
         &commands,
@@ -123,46 +123,46 @@ fn cmd_0_to_7_are_the_eight_commands() {
         complete(10),
     ];
     for (cmd, command) in expected.into_iter().enumerate() {
-        stamps(&format!("#0 {given} b{cmd:b} \" 1!"), 0, &[command]);
+        reads_stamps(&format!("#0 {given} b{cmd:b} \" 1!"), 0, &[command]);
     }
 }
 
 #[test]
 fn values_go_to_the_controller_as_read() {
     // The largest and the least, in or out of the controller's range.
-    stamps(
+    reads_stamps(
         r#"#0 1! b0 " b11111111 $ b111111111 %"#,
         0,
         &[set_source(255, 511)],
     );
-    stamps(
+    reads_stamps(
         r#"#0 1! b11 " b11111 # b111111111 %"#,
         0,
         &[set_core(31, 511)],
     );
-    stamps(r#"#0 1! b000 " b0 $ b000000000 %"#, 0, &[set_source(0, 0)]);
+    reads_stamps(r#"#0 1! b000 " b0 $ b000000000 %"#, 0, &[set_source(0, 0)]);
 }
 
 #[test]
 fn empty_texts_lack_the_definitions() {
-    whole("", 11, &[]);
-    whole(" \t\r\n", 11, &[]);
-    whole("$date today $end", 11, &[]);
-    whole(DECLARED, 11, &[]);
-    whole(&format!("{DECLARED} $enddefinitions"), 11, &[]);
-    whole(&format!("{DECLARED} $enddefinitions $end"), 0, &[]);
+    reads("", 11, &[]);
+    reads(" \t\r\n", 11, &[]);
+    reads("$date today $end", 11, &[]);
+    reads(DECLARED, 11, &[]);
+    reads(&format!("{DECLARED} $enddefinitions"), 11, &[]);
+    reads(&format!("{DECLARED} $enddefinitions $end"), 0, &[]);
 }
 
 #[test]
 fn separators_are_space_tab_cr_and_lf_and_nothing_else() {
     for separator in [" ", "\t", "\r", "\n", "\r\n", " \t\r\n "] {
         let text = TRIGGER_4.replace([' ', '\n'], separator);
-        whole(&text, 0, &[trigger(4)]);
-        whole(&format!("{separator}{}", text.trim_end()), 0, &[trigger(4)]);
+        reads(&text, 0, &[trigger(4)]);
+        reads(&format!("{separator}{}", text.trim_end()), 0, &[trigger(4)]);
     }
     for other in ["\u{b}", "\u{c}", "\0", "\u{a0}", ","] {
-        stamps(&format!("#0 ‸1!{other}#1"), 11, &[]);
-        stamps(&format!("#0 1!{} ‸{other}", r#" b100 " b100 $"#), 11, &[]);
+        reads_stamps(&format!("#0 ‸1!{other}#1"), 11, &[]);
+        reads_stamps(&format!("#0 1!{} ‸{other}", r#" b100 " b100 $"#), 11, &[]);
     }
 }
 
@@ -183,18 +183,18 @@ fn skipped_definitions_may_hold_any_words_but_end() {
             "$END $endx",
             "\0 \u{7f} é",
         ] {
-            definitions(&format!("{keyword} {skipped} $end {DECLARED}"), 0);
-            definitions(&format!("{DECLARED} {keyword} {skipped} $end"), 0);
+            reads_definitions(&format!("{keyword} {skipped} $end {DECLARED}"), 0);
+            reads_definitions(&format!("{DECLARED} {keyword} {skipped} $end"), 0);
         }
         // Skipped to the first $end only.
-        definitions(&format!("{keyword} $end ‸$end {DECLARED}"), 11);
+        reads_definitions(&format!("{keyword} $end ‸$end {DECLARED}"), 11);
         // The next $end is that of $enddefinitions, so that the definitions aren't over.
-        whole(
+        reads(
             &format!("{DECLARED} {keyword} $enddefinitions $end ‸#0"),
             11,
             &[],
         );
-        whole(&format!("{DECLARED} {keyword} $enddefinitions"), 11, &[]);
+        reads(&format!("{DECLARED} {keyword} $enddefinitions"), 11, &[]);
     }
 }
 
@@ -221,14 +221,14 @@ fn definitions_are_only_those_named() {
         "$DATE",
         "$enddefinition",
     ] {
-        definitions(&format!("‸{word} {DECLARED}"), 11);
-        definitions(&format!("{DECLARED} ‸{word}"), 11);
+        reads_definitions(&format!("‸{word} {DECLARED}"), 11);
+        reads_definitions(&format!("{DECLARED} ‸{word}"), 11);
     }
     let after = |word| format!("{DECLARED} $enddefinitions ‸{word}");
-    whole(&after("#0"), 11, &[]);
-    whole(&after("$END"), 11, &[]);
+    reads(&after("#0"), 11, &[]);
+    reads(&after("$END"), 11, &[]);
     // A second one stands where a time or change may stand.
-    stamps("‸$enddefinitions $end", 11, &[]);
+    reads_stamps("‸$enddefinitions $end", 11, &[]);
 }
 
 /// Declarations of all but prio, and then these words.
@@ -239,11 +239,11 @@ fn with_prio(words: &str) -> String {
 
 #[test]
 fn declarations_may_come_in_any_order_with_any_codes() {
-    definitions(&with_prio("$var wire 9 ~~~~ prio $end"), 0);
-    definitions(&with_prio("$var wire 9 A prio $end"), 0);
+    reads_definitions(&with_prio("$var wire 9 ~~~~ prio $end"), 0);
+    reads_definitions(&with_prio("$var wire 9 A prio $end"), 0);
     let last = "$var wire 9 % prio $end ";
     let others = DECLARED.replace(last, "");
-    definitions(&format!("{last} $comment x $end {others}"), 0);
+    reads_definitions(&format!("{last} $comment x $end {others}"), 0);
 }
 
 #[test]
@@ -277,14 +277,14 @@ fn words_of_a_declaration_are_judged_in_their_order() {
         ("$var wire 8 & ‸arg $end", 12),
         ("$var wire 8 ! ‸arg ]", 12),
     ] {
-        definitions(&with_prio(words), number);
+        reads_definitions(&with_prio(words), number);
     }
 }
 
 #[test]
 fn widths_may_have_leading_zeros_and_any_size() {
     let zeros = "0".repeat(1000);
-    definitions(&with_prio(&format!("$var wire {zeros}9 % prio $end")), 0);
+    reads_definitions(&with_prio(&format!("$var wire {zeros}9 % prio $end")), 0);
     // Equal to 9 modulo 2^8, 2^16, 2^32, 2^64 and 2^128.
     for width in [
         "265",
@@ -294,7 +294,7 @@ fn widths_may_have_leading_zeros_and_any_size() {
         "340282366920938463463374607431768211465",
         &"9".repeat(1000),
     ] {
-        definitions(&with_prio(&format!("$var wire {width} % ‸prio $end")), 12);
+        reads_definitions(&with_prio(&format!("$var wire {width} % ‸prio $end")), 12);
     }
 }
 
@@ -308,10 +308,10 @@ fn missing_variables_show_at_enddefinitions() {
         ("prio", "$var wire 9 % prio $end"),
     ] {
         let others = DECLARED.replace(declaration, "");
-        let fault = whole(&format!("{others} ‸$enddefinitions #0"), 12, &[]);
+        let fault = reads(&format!("{others} ‸$enddefinitions #0"), 12, &[]);
         assert!(fault.is_some_and(|fault| fault.reason.to_string().contains(name)));
     }
-    whole("‸$enddefinitions $end", 12, &[]);
+    reads("‸$enddefinitions $end", 12, &[]);
 }
 
 #[test]
@@ -319,21 +319,21 @@ fn codes_may_be_words_that_mean_something_elsewhere() {
     let text = r#"$var wire 1 $end stb $end $var wire 3 #0 cmd $end $var wire 5 b1 core $end
         $var wire 8 $enddefinitions arg $end $var wire 9 $var prio $end"#;
     // `$enddefinitions` has 15 bytes.
-    definitions(&text.replace("8 $end", "8 ‸$end"), 11);
+    reads_definitions(&text.replace("8 $end", "8 ‸$end"), 11);
     let text = text
         .replace("$enddefinitions", "1$en")
         .replace("$var prio", "$com prio");
     let start = format!("{text} $enddefinitions $end ");
     let body = r#"#0 1$end b100 #0 b100 1$en #1 0$end #2 b101 #0 b1 b1 1$end #3 0$end
         #4 $dumpon b11 #0 b0 $com 1$end $end #5"#;
-    whole(
+    reads(
         &(start.clone() + body),
         0,
         &[trigger(4), claim(1), set_core(1, 0)],
     );
-    // In a block `$end` ends it, and as the code of a vector it is stb's code.
-    whole(&(start.clone() + "#0 $dumpon b1 ‸$end $end"), 11, &[]);
-    whole(
+    // In a block `$end` ends it, but after a vector it is a code: here stb's, which no vector has.
+    reads(&(start.clone() + "#0 $dumpon b1 ‸$end $end"), 11, &[]);
+    reads(
         &(start + "#0 $dumpon b1 #0 $end #1 1$end b1 1$en"),
         0,
         &[mask(1)],
@@ -341,136 +341,145 @@ fn codes_may_be_words_that_mean_something_elsewhere() {
 }
 
 #[test]
+fn a_vectors_code_may_be_end_in_a_block_too() {
+    let text = DECLARED.replace("3 \" cmd", "3 $end cmd");
+    let start = format!("{text} $enddefinitions $end ");
+    let body = "#0 $dumpon b100 $end b110 $ $end 1! #1";
+    reads(&(start.clone() + body), 0, &[trigger(6)]);
+    reads(&(start + "#0 $dumpon b100 $end b110 $"), 11, &[]);
+}
+
+#[test]
 fn codes_are_matched_whole_and_keep_their_case() {
     let start = r#"$var wire 1 a stb $end $var wire 3 ab cmd $end $var wire 5 abc core $end
         $var wire 8 A arg $end $var wire 9 AB prio $end $enddefinitions $end "#;
-    let whole = |body: &str, number, commands: &[Command]| {
-        super::recording::whole(&format!("{start}{body}"), number, commands);
+    let reads_after = |body: &str, number, commands: &[Command]| {
+        reads(&format!("{start}{body}"), number, commands);
     };
-    whole("#0 1a b101 ab b11 abc", 0, &[claim(3)]);
-    whole("#0 1a b100 ab b11 A", 0, &[trigger(3)]);
-    whole("#0 ‸1ab", 11, &[]);
-    whole("#0 ‸1A", 11, &[]);
-    whole("#0 ‸1", 11, &[]);
-    whole("#0 b1 ‸a", 11, &[]);
-    whole("#0 b1 ‸Ab", 11, &[]);
-    whole("#0 b1 ‸abcd", 11, &[]);
-    whole("#0 b1 ‸#1", 11, &[]);
+    reads_after("#0 1a b101 ab b11 abc", 0, &[claim(3)]);
+    reads_after("#0 1a b100 ab b11 A", 0, &[trigger(3)]);
+    reads_after("#0 ‸1ab", 11, &[]);
+    reads_after("#0 ‸1A", 11, &[]);
+    reads_after("#0 ‸1", 11, &[]);
+    reads_after("#0 b1 ‸a", 11, &[]);
+    reads_after("#0 b1 ‸Ab", 11, &[]);
+    reads_after("#0 b1 ‸abcd", 11, &[]);
+    reads_after("#0 b1 ‸#1", 11, &[]);
 }
 
 #[test]
 fn capitals_are_read_as_small_in_values_only() {
-    stamps(r#"#0 B100 " BX # B100 $ bZ % 1!"#, 0, &[trigger(4)]);
-    stamps(r#"#0 X! 1! b100 " b100 $ Z! ‸#1"#, 13, &[]);
-    stamps("#0 ‸$Comment $end", 11, &[]);
-    stamps("#0 ‸$DUMPALL $end", 11, &[]);
-    stamps("#0 $dumpall ‸$End", 11, &[]);
+    reads_stamps(r#"#0 B100 " BX # B100 $ bZ % 1!"#, 0, &[trigger(4)]);
+    reads_stamps(r#"#0 X! 1! b100 " b100 $ Z! ‸#1"#, 13, &[]);
+    reads_stamps("#0 ‸$Comment $end", 11, &[]);
+    reads_stamps("#0 ‸$DUMPALL $end", 11, &[]);
+    reads_stamps("#0 $dumpall ‸$End", 11, &[]);
 }
 
 #[test]
 fn vectors_have_one_or_more_bits() {
-    stamps("#0 ‸b \"", 11, &[]);
-    stamps("#0 ‸B \"", 11, &[]);
-    stamps("#0 ‸b2 \"", 11, &[]);
-    stamps("#0 ‸b1-0 \"", 11, &[]);
-    stamps("#0 ‸bb1 \"", 11, &[]);
-    stamps("#0 ‸r1.5 \"", 11, &[]);
-    stamps("#0 ‸100 \"", 11, &[]);
+    reads_stamps("#0 ‸b \"", 11, &[]);
+    reads_stamps("#0 ‸B \"", 11, &[]);
+    reads_stamps("#0 ‸b2 \"", 11, &[]);
+    reads_stamps("#0 ‸b1-0 \"", 11, &[]);
+    reads_stamps("#0 ‸bb1 \"", 11, &[]);
+    reads_stamps("#0 ‸r1.5 \"", 11, &[]);
+    reads_stamps("#0 ‸100 \"", 11, &[]);
 }
 
 #[test]
 fn vectors_longer_than_their_variables_show_at_the_code() {
-    stamps(r#"#0 b0001 ‸" 1!"#, 11, &[]);
-    stamps(r#"#0 b000000 ‸#"#, 11, &[]);
-    stamps(r#"#0 b000000000 ‸$"#, 11, &[]);
-    stamps(r#"#0 b0000000000 ‸%"#, 11, &[]);
-    stamps(r#"#0 bxxxx ‸""#, 11, &[]);
+    reads_stamps(r#"#0 b0001 ‸" 1!"#, 11, &[]);
+    reads_stamps(r#"#0 b000000 ‸#"#, 11, &[]);
+    reads_stamps(r#"#0 b000000000 ‸$"#, 11, &[]);
+    reads_stamps(r#"#0 b0000000000 ‸%"#, 11, &[]);
+    reads_stamps(r#"#0 bxxxx ‸""#, 11, &[]);
     let long = "0".repeat(10_000);
-    stamps(&format!("#0 b{long} ‸%"), 11, &[]);
-    stamps(&format!("#0 b{long}"), 11, &[]);
+    reads_stamps(&format!("#0 b{long} ‸%"), 11, &[]);
+    reads_stamps(&format!("#0 b{long}"), 11, &[]);
     // stb is no vector.
-    stamps("#0 b1 ‸!", 11, &[]);
-    stamps("#0 ‸b !", 11, &[]);
+    reads_stamps("#0 b1 ‸!", 11, &[]);
+    reads_stamps("#0 ‸b !", 11, &[]);
 }
 
 #[test]
 fn shorter_vectors_are_extended() {
     // Zeros after 0 or 1.
-    stamps(r#"#0 1! b1 " b1 $"#, 0, &[mask(1)]);
-    stamps(r#"#0 1! b01 " b01 $"#, 0, &[mask(1)]);
-    stamps(
+    reads_stamps(r#"#0 1! b1 " b1 $"#, 0, &[mask(1)]);
+    reads_stamps(r#"#0 1! b01 " b01 $"#, 0, &[mask(1)]);
+    reads_stamps(
         r#"#0 1! b111 " b111 $ b11 " b0 # b0 %"#,
         0,
         &[set_core(0, 0)],
     );
     // x after x, z after z.
-    stamps(r#"#0 1! bx " b1 $ ‸#1"#, 13, &[]);
-    stamps(r#"#0 1! b1 " bz0 $ ‸#1"#, 13, &[]);
-    stamps(r#"#0 1! b1 " b0x $ ‸#1"#, 13, &[]);
+    reads_stamps(r#"#0 1! bx " b1 $ ‸#1"#, 13, &[]);
+    reads_stamps(r#"#0 1! b1 " bz0 $ ‸#1"#, 13, &[]);
+    reads_stamps(r#"#0 1! b1 " b0x $ ‸#1"#, 13, &[]);
     // What was held before doesn't show through.
-    stamps(r#"#0 1! bxx1 " b1 " bzzzzzzzz $ b10 $"#, 0, &[mask(2)]);
+    reads_stamps(r#"#0 1! bxx1 " b1 " bzzzzzzzz $ b10 $"#, 0, &[mask(2)]);
 }
 
 #[test]
 fn stamps_end_at_times_and_at_the_texts_end() {
     let strobe = r#"#0 b100 " b100 $ 1!"#;
-    stamps(strobe, 0, &[trigger(4)]);
-    stamps(&format!("{strobe} #1"), 0, &[trigger(4)]);
+    reads_stamps(strobe, 0, &[trigger(4)]);
+    reads_stamps(&format!("{strobe} #1"), 0, &[trigger(4)]);
     // A text without a time has no stamp.
-    stamps(r#"b100 " b100 $ 1!"#, 0, &[]);
-    stamps(r#"b100 " b100 $ x!"#, 0, &[]);
+    reads_stamps(r#"b100 " b100 $ 1!"#, 0, &[]);
+    reads_stamps(r#"b100 " b100 $ x!"#, 0, &[]);
     // Changes before the first time carry into it, and it ends no stamp.
-    stamps(r#"b100 " b100 $ 1! #0"#, 0, &[trigger(4)]);
-    stamps(r#"b100 " b100 $ 1! #7 0!"#, 0, &[]);
-    stamps(r#"b100 " b100 $ 1! #7 b101 $ #8"#, 0, &[trigger(5)]);
-    stamps(r#"x! #0 0!"#, 0, &[]);
-    stamps(r#"$dumpvars b100 " b100 $ 1! $end #0 #1"#, 0, &[trigger(4)]);
+    reads_stamps(r#"b100 " b100 $ 1! #0"#, 0, &[trigger(4)]);
+    reads_stamps(r#"b100 " b100 $ 1! #7 0!"#, 0, &[]);
+    reads_stamps(r#"b100 " b100 $ 1! #7 b101 $ #8"#, 0, &[trigger(5)]);
+    reads_stamps(r#"x! #0 0!"#, 0, &[]);
+    reads_stamps(r#"$dumpvars b100 " b100 $ 1! $end #0 #1"#, 0, &[trigger(4)]);
 }
 
 #[test]
 fn strobes_are_rises_from_stamp_to_stamp() {
     let held = r#"b100 " b100 $ "#;
     // 1 at the end of two stamps in a row, also if it went 0 and 1 again within the second.
-    stamps(&format!("{held} #0 1! #1 #2"), 0, &[trigger(4)]);
-    stamps(&format!("{held} #0 1! #1 1! #2"), 0, &[trigger(4)]);
-    stamps(&format!("{held} #0 1! #1 0! 1! #2"), 0, &[trigger(4)]);
-    stamps(&format!("{held} #0 1! #1 b101 $ #2"), 0, &[trigger(4)]);
+    reads_stamps(&format!("{held} #0 1! #1 #2"), 0, &[trigger(4)]);
+    reads_stamps(&format!("{held} #0 1! #1 1! #2"), 0, &[trigger(4)]);
+    reads_stamps(&format!("{held} #0 1! #1 0! 1! #2"), 0, &[trigger(4)]);
+    reads_stamps(&format!("{held} #0 1! #1 b101 $ #2"), 0, &[trigger(4)]);
     // 1 and 0 again within a stamp.
-    stamps(&format!("{held} #0 1! 0! #1"), 0, &[]);
-    stamps(&format!("{held} #0 1! x! 0! #1"), 0, &[]);
+    reads_stamps(&format!("{held} #0 1! 0! #1"), 0, &[]);
+    reads_stamps(&format!("{held} #0 1! x! 0! #1"), 0, &[]);
     // 0 at the end of the stamp between.
-    stamps(
+    reads_stamps(
         &format!("{held} #0 1! #1 0! #2 1!"),
         0,
         &[trigger(4), trigger(4)],
     );
     // stb is 0 until given.
-    stamps(&format!("{held} #0 #1 #2 1!"), 0, &[trigger(4)]);
+    reads_stamps(&format!("{held} #0 #1 #2 1!"), 0, &[trigger(4)]);
 }
 
 #[test]
 fn values_are_those_at_the_stamps_end() {
-    stamps(r#"#0 1! b100 " b100 $"#, 0, &[trigger(4)]);
-    stamps(r#"#0 b100 " b100 $ 1! b101 $ b111 ""#, 0, &[complete(5)]);
-    stamps(
+    reads_stamps(r#"#0 1! b100 " b100 $"#, 0, &[trigger(4)]);
+    reads_stamps(r#"#0 b100 " b100 $ 1! b101 $ b111 ""#, 0, &[complete(5)]);
+    reads_stamps(
         r#"#0 b100 " b100 $ 1! b1 $ #1 0! b10 $ #2 1! #3 b11 $"#,
         0,
         &[trigger(1), trigger(2)],
     );
-    stamps(r#"#0 b100 " bx $ 1! b1 $"#, 0, &[trigger(1)]);
+    reads_stamps(r#"#0 b100 " bx $ 1! b1 $"#, 0, &[trigger(1)]);
 }
 
 #[test]
 fn unknown_values_show_only_where_they_are_used() {
     // stb at the end of any stamp.
-    stamps("#0 x! ‸#1", 13, &[]);
-    stamps("#0 z!", 13, &[]);
-    stamps("#0 #1 #2 Z! ‸#3", 13, &[]);
-    stamps("#0 x! 0! #1", 0, &[]);
+    reads_stamps("#0 x! ‸#1", 13, &[]);
+    reads_stamps("#0 z!", 13, &[]);
+    reads_stamps("#0 #1 #2 Z! ‸#3", 13, &[]);
+    reads_stamps("#0 x! 0! #1", 0, &[]);
     // cmd, and what each command uses. Until first given it is x.
-    stamps(r#"#0 1! b1 $ ‸#1"#, 13, &[]);
-    stamps(r#"#0 1! b10z " b1 $ b1 # ‸#1"#, 13, &[]);
-    for (cmd, uses) in [
+    reads_stamps(r#"#0 1! b1 $ ‸#1"#, 13, &[]);
+    reads_stamps(r#"#0 1! b10z " b1 $ b1 # ‸#1"#, 13, &[]);
+    let uses = [
         "arg prio",
         "arg",
         "arg",
@@ -479,26 +488,31 @@ fn unknown_values_show_only_where_they_are_used() {
         "core",
         "arg",
         "arg",
-    ]
-    .iter()
-    .enumerate()
-    {
+    ];
+    let zeros = [
+        set_source(0, 0),
+        mask(0),
+        unmask(0),
+        set_core(0, 0),
+        trigger(0),
+        claim(0),
+        redeliver(0),
+        complete(0),
+    ];
+    for (cmd, (uses, command)) in uses.into_iter().zip(zeros).enumerate() {
         for (name, code) in [("core", "#"), ("arg", "$"), ("prio", "%")] {
             for unknown in ["x", "z", "01z", "x1"] {
                 let values = format!("b0 # b0 $ b0 % b{unknown} {code} b{cmd:b} \"");
-                let body = format!("#0 1! {values} ‸#1");
                 if uses.contains(name) {
-                    stamps(&body, 13, &[]);
+                    reads_stamps(&format!("#0 1! {values} ‸#1"), 13, &[]);
                 } else {
-                    let reading =
-                        read(&unmarked(&format!("{DECLARED} $enddefinitions $end {body}")).0);
-                    assert_eq!((reading.number(), reading.commands.len()), (0, 1), "{body}");
+                    reads_stamps(&format!("#0 1! {values} #1"), 0, &[command]);
                 }
             }
         }
     }
     // Without a strobe no other value shows.
-    stamps(
+    reads_stamps(
         r#"#0 b100 " b1 $ 1! #1 bx $ bx " #2 0! #3"#,
         0,
         &[trigger(1)],
@@ -507,30 +521,30 @@ fn unknown_values_show_only_where_they_are_used() {
 
 #[test]
 fn times_are_decimal_up_to_2_to_64_minus_1_and_rise() {
-    stamps("#0 #1 #18446744073709551615", 0, &[]);
-    stamps("#18446744073709551615", 0, &[]);
-    stamps("‸#18446744073709551616", 11, &[]);
-    stamps("#5 ‸#18446744073709551616", 11, &[]);
-    stamps("#5 ‸#18446744073709551622", 11, &[]);
-    stamps("#5 ‸#99999999999999999999999999999999999999999999", 11, &[]);
+    reads_stamps("#0 #1 #18446744073709551615", 0, &[]);
+    reads_stamps("#18446744073709551615", 0, &[]);
+    reads_stamps("‸#18446744073709551616", 11, &[]);
+    reads_stamps("#5 ‸#18446744073709551616", 11, &[]);
+    reads_stamps("#5 ‸#18446744073709551622", 11, &[]);
+    reads_stamps("#5 ‸#99999999999999999999999999999999999999999999", 11, &[]);
     let zeros = "0".repeat(1000);
-    stamps(
+    reads_stamps(
         &format!("#{zeros} #{zeros}1 #0000000000000000000002"),
         0,
         &[],
     );
-    stamps(&format!("#{zeros} ‸#{zeros}"), 14, &[]);
-    stamps("#0 ‸#0", 14, &[]);
-    stamps("#7 ‸#7", 14, &[]);
-    stamps("#7 ‸#6", 14, &[]);
-    stamps("#7 ‸#007", 14, &[]);
-    stamps("#9 #10 ‸#9", 14, &[]);
-    stamps("#18446744073709551615 ‸#18446744073709551615", 14, &[]);
+    reads_stamps(&format!("#{zeros} ‸#{zeros}"), 14, &[]);
+    reads_stamps("#0 ‸#0", 14, &[]);
+    reads_stamps("#7 ‸#7", 14, &[]);
+    reads_stamps("#7 ‸#6", 14, &[]);
+    reads_stamps("#7 ‸#007", 14, &[]);
+    reads_stamps("#9 #10 ‸#9", 14, &[]);
+    reads_stamps("#18446744073709551615 ‸#18446744073709551615", 14, &[]);
     // The first time is never too early.
-    stamps("#0", 0, &[]);
+    reads_stamps("#0", 0, &[]);
     for bad in ["#", "##", "#1x", "#-1", "#+1", "#1.5", "#x", "#\u{661}"] {
-        stamps(&format!("‸{bad}"), 11, &[]);
-        stamps(&format!("#0 ‸{bad}"), 11, &[]);
+        reads_stamps(&format!("‸{bad}"), 11, &[]);
+        reads_stamps(&format!("#0 ‸{bad}"), 11, &[]);
     }
 }
 
@@ -546,27 +560,27 @@ fn words_with_a_hash_end_the_stamp_where_a_time_may_stand() {
         ("#5", 14),
         ("#4", 14),
     ] {
-        stamps(&format!("{strobe} ‸{word}"), number, &four);
-        stamps(&format!("{strobe} #6 0! ‸{word}"), number, &four);
+        reads_stamps(&format!("{strobe} ‸{word}"), number, &four);
+        reads_stamps(&format!("{strobe} #6 0! ‸{word}"), number, &four);
         // 13 comes before 11 and 14.
-        stamps(&format!("#5 x! ‸{word}"), 13, &[]);
-        stamps(&format!("#5 1! ‸{word}"), 13, &[]);
+        reads_stamps(&format!("#5 x! ‸{word}"), 13, &[]);
+        reads_stamps(&format!("#5 1! ‸{word}"), 13, &[]);
     }
     // Before the first time no stamp is open.
-    stamps("x! ‸##", 11, &[]);
-    stamps("1! ‸##", 11, &[]);
+    reads_stamps("x! ‸##", 11, &[]);
+    reads_stamps("1! ‸##", 11, &[]);
     // Not in a block, not in a comment, not as a code, and no other word that is against the grammar.
-    stamps(&format!("{strobe} $dumpon ‸#6 $end"), 11, &[]);
-    stamps("#5 x! $dumpon ‸#6 $end", 11, &[]);
-    stamps(&format!("{strobe} b1 ‸#6"), 11, &[]);
-    stamps(
+    reads_stamps(&format!("{strobe} $dumpon ‸#6 $end"), 11, &[]);
+    reads_stamps("#5 x! $dumpon ‸#6 $end", 11, &[]);
+    reads_stamps(&format!("{strobe} b1 ‸#6"), 11, &[]);
+    reads_stamps(
         &format!("{strobe} $comment #6 ## $end b101 $"),
         0,
         &[trigger(5)],
     );
-    stamps("#5 x! $comment #6 $end 0!", 0, &[]);
-    stamps(&format!("{strobe} ‸$end"), 11, &[]);
-    stamps("#5 x! ‸hello", 11, &[]);
+    reads_stamps("#5 x! $comment #6 $end 0!", 0, &[]);
+    reads_stamps(&format!("{strobe} ‸$end"), 11, &[]);
+    reads_stamps("#5 x! ‸hello", 11, &[]);
 }
 
 #[test]
@@ -580,35 +594,35 @@ fn at_the_texts_end_an_open_stamp_ends_before_what_is_missing() {
         "b1",
         "$dumpoff b1",
     ] {
-        stamps(&format!("{strobe} {unfinished}"), 11, &[trigger(4)]);
-        stamps(&format!("{strobe} #6 {unfinished}"), 11, &[trigger(4)]);
-        stamps(&format!("#5 x! {unfinished}"), 13, &[]);
-        stamps(&format!("#5 1! {unfinished}"), 13, &[]);
-        stamps(&format!("#5 {unfinished}"), 11, &[]);
+        reads_stamps(&format!("{strobe} {unfinished}"), 11, &[trigger(4)]);
+        reads_stamps(&format!("{strobe} #6 {unfinished}"), 11, &[trigger(4)]);
+        reads_stamps(&format!("#5 x! {unfinished}"), 13, &[]);
+        reads_stamps(&format!("#5 1! {unfinished}"), 13, &[]);
+        reads_stamps(&format!("#5 {unfinished}"), 11, &[]);
         // No stamp is open before the first time.
-        stamps(&format!("x! {unfinished}"), 11, &[]);
+        reads_stamps(&format!("x! {unfinished}"), 11, &[]);
     }
 }
 
 #[test]
 fn blocks_hold_changes_only() {
     for keyword in ["$dumpvars", "$dumpall", "$dumpon", "$dumpoff"] {
-        stamps(&format!("#0 {keyword} $end"), 0, &[]);
-        stamps(
+        reads_stamps(&format!("#0 {keyword} $end"), 0, &[]);
+        reads_stamps(
             &format!("#0 {keyword} b100 \" b100 $ $end 1!"),
             0,
             &[trigger(4)],
         );
-        stamps(
+        reads_stamps(
             &format!("#0 {keyword} b100 \" b100 $ 1! $end"),
             0,
             &[trigger(4)],
         );
-        stamps(&format!("{keyword} x! $end #0 0!"), 0, &[]);
+        reads_stamps(&format!("{keyword} x! $end #0 0!"), 0, &[]);
         for word in ["#1", "$comment", "$dumpvars", "$var", "b", "1"] {
-            stamps(&format!("#0 {keyword} ‸{word} $end"), 11, &[]);
+            reads_stamps(&format!("#0 {keyword} ‸{word} $end"), 11, &[]);
         }
-        stamps(&format!("#0 {keyword} b1 ‸$end"), 11, &[]);
+        reads_stamps(&format!("#0 {keyword} b1 ‸$end"), 11, &[]);
     }
     // Only $comment of the skipped ones may stand after the definitions.
     for keyword in [
@@ -619,7 +633,7 @@ fn blocks_hold_changes_only() {
         "$upscope",
         "$var",
     ] {
-        stamps(&format!("#0 ‸{keyword} $end"), 11, &[]);
+        reads_stamps(&format!("#0 ‸{keyword} $end"), 11, &[]);
     }
 }
 
@@ -637,21 +651,21 @@ fn commands_after_the_65535th_are_refused() {
     assert_eq!(MAX_COMMANDS, 65_535);
     let all = vec![trigger(4); 65_535];
     let full = strobes(65_535);
-    whole(&full, 0, &all);
-    whole(&(full.clone() + " #999999"), 0, &all);
-    whole(&(full.clone() + " ‸##"), 11, &all);
+    reads(&full, 0, &all);
+    reads(&(full.clone() + " #999999"), 0, &all);
+    reads(&(full.clone() + " ‸##"), 11, &all);
     let over = strobes(65_536);
-    whole(&over, 19, &all);
-    whole(&(over.clone() + " ‸#999999 #1"), 19, &all);
+    reads(&over, 19, &all);
+    reads(&(over.clone() + " ‸#999999 #1"), 19, &all);
     // At one place 13 comes before 19, and 19 before 11 and 14.
-    whole(&(over.clone() + " ‸##"), 19, &all);
-    whole(&(over.clone() + " ‸#0"), 19, &all);
-    whole(&(over.clone() + " $comment"), 19, &all);
-    whole(&(over.clone() + " bx $ ‸#999999"), 13, &all);
-    whole(&(over.clone() + " bx $ ‸##"), 13, &all);
+    reads(&(over.clone() + " ‸##"), 19, &all);
+    reads(&(over.clone() + " ‸#0"), 19, &all);
+    reads(&(over.clone() + " $comment"), 19, &all);
+    reads(&(over.clone() + " bx $ ‸#999999"), 13, &all);
+    reads(&(over.clone() + " bx $ ‸##"), 13, &all);
     // The strobe that isn't one any more, and a fault before it.
-    whole(&(over.clone() + " 0! #999999"), 0, &all);
-    whole(&(over + " ‸hello #999999"), 11, &all);
+    reads(&(over.clone() + " 0! #999999"), 0, &all);
+    reads(&(over + " ‸hello #999999"), 11, &all);
 }
 
 #[test]
@@ -664,7 +678,7 @@ fn the_first_fault_ends_the_reading() {
             _ => 13,
         };
         for second in faults {
-            stamps(&format!("#0 #1 {first} {second} #99"), number, &[]);
+            reads_stamps(&format!("#0 #1 {first} {second} #99"), number, &[]);
         }
     }
 }
@@ -702,6 +716,20 @@ fn replay_runs_the_commands_before_a_fault() {
     );
     assert_eq!(replay.answers.len(), 1);
     assert!(replay.controller.sources[3].pending);
+}
+
+#[test]
+fn refused_commands_count_towards_the_limit() {
+    let text = strobes(65_536);
+    let replay = replay(8, 1, text.as_bytes());
+    assert_eq!(
+        (replay.reading.number(), replay.reading.offset()),
+        (19, text.len())
+    );
+    assert_eq!(replay.answers.len(), 65_535);
+    // The first is accepted; each further trigger is one of a pending source.
+    assert_eq!(replay.answers[0].number, 0);
+    assert!(replay.answers[1..].iter().all(|answer| answer.number == 6));
 }
 
 #[test]
@@ -770,12 +798,12 @@ fn faults_are_explained_to_a_person() {
     );
     explained(
         "#0 b1001\r\n\"",
-        "line 4, column 1, at `\\\"`: expected at most 3 bits for cmd (11)",
+        "line 4, column 1, at `\"`: expected at most 3 bits for cmd (11)",
     );
     explained(
         "#0 \u{7f}\u{e9}",
-        "line 3, column 4, at `\\x7f\\xc3\\xa9`: expected a time, a change, \
-        $comment, $dumpvars, $dumpall, $dumpon or $dumpoff (11)",
+        "line 3, column 4, at `\\x7f\\xc3\\xa9`: expected a time, a bit joined to the \
+        code of stb, b joined to bits, $comment, $dumpvars, $dumpall, $dumpon or $dumpoff (11)",
     );
     let long = "9".repeat(50);
     explained(
@@ -792,6 +820,6 @@ fn faults_are_explained_to_a_person() {
         .expect("no controller has 0 sources");
     assert_eq!(
         sizes.explain(b""),
-        "1 to 128 sources and 1 to 32 cores were expected (2)"
+        "expected 1 to 128 sources and 1 to 32 cores (2)"
     );
 }

@@ -24,6 +24,10 @@ fn texts_of(kind: Kind, count: u64) -> impl Iterator<Item = Text> {
     (0..count).map(move |_| text(kind, seeds.bits()))
 }
 
+fn separates(byte: &u8) -> bool {
+    b" \t\r\n".contains(byte)
+}
+
 fn answered(text: &[u8]) -> Answered {
     let reading = read(text);
     let (number, offset) = (reading.number(), reading.offset());
@@ -108,9 +112,8 @@ fn faults_show_at_words_or_at_the_texts_end_and_are_explained() {
             continue;
         };
         let (before, rest) = text.bytes.split_at(fault.offset);
-        let parts = |byte: &u8| b" \t\r\n".contains(byte);
-        assert!(before.last().is_none_or(parts) || rest.is_empty());
-        assert!(!rest.first().is_some_and(parts));
+        assert!(before.last().is_none_or(separates) || rest.is_empty());
+        assert!(!rest.first().is_some_and(separates));
         let explained = fault.explain(&text.bytes);
         let lines = before.split(|&byte| byte == b'\n');
         let line = format!("line {}, ", lines.count());
@@ -118,6 +121,60 @@ fn faults_show_at_words_or_at_the_texts_end_and_are_explained() {
             explained.starts_with(&line) && explained.len() < 400,
             "{explained}"
         );
+    }
+}
+
+#[test]
+fn what_follows_a_fault_changes_nothing() {
+    for text in texts().filter(|text| text.kind != Kind::Long) {
+        let right = answered(&text.bytes);
+        let rest = &text.bytes[right.2..];
+        if right.1 == 0 || rest.is_empty() {
+            continue;
+        }
+        let word = rest.split(separates).next().unwrap_or_default();
+        let through = &text.bytes[..right.2 + word.len()];
+        for after in [&b""[..], b" ", b"\n#0 $end 1! \xff"] {
+            assert_eq!(answered(&[through, after].concat()), right, "{}", text.seed);
+        }
+    }
+}
+
+#[test]
+fn separators_move_the_offset_only() {
+    for text in texts().filter(|text| text.kind != Kind::Long) {
+        let words: Vec<&[u8]> = text
+            .bytes
+            .split(separates)
+            .filter(|w| !w.is_empty())
+            .collect();
+        let apart = words.join(&b" \r\n"[..]);
+        let (commands, number, offset) = answered(&text.bytes);
+        let again = answered(&apart);
+        assert_eq!((&again.0, again.1), (&commands, number), "{}", text.seed);
+        // As many words stand before the fault.
+        let before = |bytes: &[u8]| bytes.split(separates).filter(|w| !w.is_empty()).count();
+        assert_eq!(
+            before(&text.bytes[..offset]),
+            before(&apart[..again.2]),
+            "{}",
+            text.seed
+        );
+    }
+}
+
+#[test]
+fn commands_of_a_beginning_are_a_beginning_of_the_commands() {
+    let mut random = Random::new(run_seed());
+    for text in texts().filter(|text| text.kind == Kind::Valid) {
+        let all = read(&text.bytes).commands;
+        let cut = random.below(text.bytes.len());
+        let mut some = read(&text.bytes[..cut]).commands;
+        // Where the text is cut a stamp ends, and may give a command that the whole text doesn't.
+        if !all.starts_with(&some) {
+            some.pop();
+        }
+        assert!(all.starts_with(&some), "{}", text.seed);
     }
 }
 
