@@ -83,6 +83,7 @@ impl Script<'_> {
         let chosen = random.below(declarations.len());
         let other = declarations[random.below(declarations.len())].clone();
         let words = &mut declarations[chosen];
+        // One that has lost or gained a word is bad enough.
         if words.len() != END + 1 || other.len() != END + 1 {
             return;
         }
@@ -124,7 +125,6 @@ impl Script<'_> {
 
     /// One fault where a time or change may stand, or none. Tells whether the text goes on.
     fn fault(&mut self) -> bool {
-        let last = self.time.unwrap_or(0);
         match self.random.below(10) {
             0 => {}
             1 => return false,
@@ -134,26 +134,9 @@ impl Script<'_> {
                     .extend(unfinished.iter().map(|&word| word.into()));
                 return false;
             }
-            3 => {
-                let word = self.random.pick(&NO_TIMES);
-                self.word(word);
-            }
-            4 => {
-                let above = self
-                    .random
-                    .pick(&[0, 1, u128::from(last) + 1, 1 << 64, 10 << 64]);
-                let word = time_word(self.random, (1 << 64) + above);
-                self.word(word);
-            }
-            5 | 6 => {
-                let time = self
-                    .random
-                    .pick(&[last, last, last.saturating_sub(1), last / 2, 0]);
-                let word = time_word(self.random, time);
-                self.word(word);
-            }
+            3..7 => self.bad_time(),
             7 => {
-                let time = format!("#{}", last + 1);
+                let time = format!("#{}", self.time.map_or(0, |last| last + 1));
                 for word in ["$dumpoff", &time, "$end"] {
                     self.word(word);
                 }
@@ -165,6 +148,25 @@ impl Script<'_> {
             _ => self.bad_change(),
         }
         true
+    }
+
+    /// A word that ends the stamp and is no time, a time above 2^64 - 1, or one that doesn't rise.
+    fn bad_time(&mut self) {
+        let last = self.time.unwrap_or(0);
+        let word = match self.random.below(4) {
+            0 => self.random.pick(&NO_TIMES).into(),
+            1 => {
+                let next = u128::from(last) + 1;
+                let above = self.random.pick(&[0, 1, next, 1 << 64, 10 << 64]);
+                time_word(self.random, (1 << 64) + above)
+            }
+            _ => {
+                let times = [last, last, last.saturating_sub(1), last / 2, 0];
+                let time = self.random.pick(&times);
+                time_word(self.random, time)
+            }
+        };
+        self.words.push(word);
     }
 
     /// A change that fits no variable.
@@ -198,7 +200,7 @@ fn other_width(random: &mut Random, width: &[u8]) -> Word {
     let width: u128 = width.and_then(|width| width.parse().ok()).unwrap_or(1);
     let others = [
         width + 1,
-        width - 1,
+        width.saturating_sub(1),
         256 + width,
         65_536 + width,
         (1 << 64) + width,

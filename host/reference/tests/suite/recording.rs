@@ -470,13 +470,16 @@ fn values_are_those_at_the_stamps_end() {
 }
 
 #[test]
-fn unknown_values_show_only_where_they_are_used() {
-    // stb at the end of any stamp.
+fn unknown_stb_shows_at_the_end_of_any_stamp() {
     reads_stamps("#0 x! ‸#1", 13, &[]);
     reads_stamps("#0 z!", 13, &[]);
     reads_stamps("#0 #1 #2 Z! ‸#3", 13, &[]);
     reads_stamps("#0 x! 0! #1", 0, &[]);
-    // cmd, and what each command uses. Until first given it is x.
+}
+
+#[test]
+fn unknown_values_show_at_a_strobe_that_uses_them() {
+    // Every command uses cmd, and until first given it is x.
     reads_stamps(r#"#0 1! b1 $ ‸#1"#, 13, &[]);
     reads_stamps(r#"#0 1! b10z " b1 $ b1 # ‸#1"#, 13, &[]);
     let uses = [
@@ -511,12 +514,12 @@ fn unknown_values_show_only_where_they_are_used() {
             }
         }
     }
-    // Without a strobe no other value shows.
-    reads_stamps(
-        r#"#0 b100 " b1 $ 1! #1 bx $ bx " #2 0! #3"#,
-        0,
-        &[trigger(1)],
-    );
+}
+
+#[test]
+fn unknown_values_show_at_no_other_stamp() {
+    let text = r#"#0 b100 " b1 $ 1! #1 bx $ bx " #2 0! #3"#;
+    reads_stamps(text, 0, &[trigger(1)]);
 }
 
 #[test]
@@ -756,7 +759,7 @@ fn explained(text: &str, expected: &str) {
 }
 
 #[test]
-fn faults_are_explained_to_a_person() {
+fn faults_in_definitions_are_explained_to_a_person() {
     explained(
         "",
         "line 1, column 1, at the end of the text: expected $date, $version, $comment, \
@@ -780,6 +783,10 @@ fn faults_are_explained_to_a_person() {
         "line 1, column 2, at `$enddefinitions`: expected stb to be \
         declared before (12)",
     );
+}
+
+#[test]
+fn faults_after_the_definitions_are_explained_to_a_person() {
     let defined = format!("{DECLARED}$enddefinitions $end\n");
     let explained = |body: &str, expected: &str| explained(&(defined.clone() + body), expected);
     explained(
@@ -814,6 +821,10 @@ fn faults_are_explained_to_a_person() {
             "9".repeat(39)
         ),
     );
+}
+
+#[test]
+fn refused_sizes_are_explained_to_a_person() {
     let sizes = replay(0, 0, b"")
         .reading
         .fault
