@@ -4,6 +4,7 @@
 use psic_reference::recording::{read, replay, Fault, MAX_COMMANDS};
 use psic_reference::records::{Answer, Command, Controller};
 
+use crate::faulty_reader;
 use crate::histories::{claim, complete, mask, redeliver, set_core, set_source, trigger, unmask};
 
 /// Document 01's own text: trigger 4 alone.
@@ -40,7 +41,7 @@ fn unmarked(marked: &str) -> (Vec<u8>, usize) {
     (text, offset)
 }
 
-/// The text gives this number at the mark, and these commands.
+/// The text gives this number at the mark, and these commands, to both readers.
 #[track_caller]
 fn reads(marked: &str, number: u8, commands: &[Command]) -> Option<Fault> {
     let (text, offset) = unmarked(marked);
@@ -58,6 +59,8 @@ fn reads(marked: &str, number: u8, commands: &[Command]) -> Option<Fault> {
         reading.commands.len(),
         reading.commands.last()
     );
+    let second = faulty_reader::read(&text, None);
+    assert!(second == (commands.to_vec(), number, offset), "{shown}");
     reading.fault
 }
 
