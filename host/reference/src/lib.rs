@@ -3,6 +3,7 @@
 //! - [`records`], [`well_formed`] and [`mod@reference`] are the reference model.
 //! - [`ledger`] and [`demand3`] are document 01's book and the check of demand 3 against it.
 //! - [`random`], [`generate`] and [`damage`] make histories, broken states and records to lend.
+//! - [`recording`] reads and replays the bus monitor's text; [`texts`] makes such texts.
 //! - [`model`] and [`compare`] run two models side by side on one workload.
 
 pub mod compare;
@@ -12,6 +13,8 @@ pub mod generate;
 pub mod ledger;
 pub mod model;
 pub mod random;
+pub mod recording;
 pub mod records;
 pub mod reference;
+pub mod texts;
 pub mod well_formed;
