@@ -132,14 +132,20 @@ fn words(text: &[u8]) -> impl Iterator<Item = Word<'_>> {
 /// The five variables.
 #[derive(Clone, Copy, Debug, PartialEq, Eq, Hash)]
 pub enum Variable {
+    /// The strobe.
     Stb,
+    /// The command's number.
     Cmd,
+    /// The core that set core priority and claim use.
     Core,
+    /// The id that the other commands use.
     Arg,
+    /// The priority of the two commands that set one.
     Prio,
 }
 
 impl Variable {
+    /// All five, in the order of the paper.
     pub const ALL: [Variable; 5] = [
         Variable::Stb,
         Variable::Cmd,
@@ -151,10 +157,12 @@ impl Variable {
     /// Those whose changes are vectors.
     const VECTORS: [Variable; 4] = [Variable::Cmd, Variable::Core, Variable::Arg, Variable::Prio];
 
+    /// The name that declares it.
     pub fn name(self) -> &'static str {
         ["stb", "cmd", "core", "arg", "prio"][self as usize]
     }
 
+    /// How many bits it has.
     pub fn width(self) -> usize {
         [1, 3, 5, 8, 9][self as usize]
     }
@@ -455,6 +463,7 @@ pub struct Fault {
     pub number: u8,
     /// The offset of the first byte of the word at which it shows, or the text's length.
     pub offset: usize,
+    /// What is wrong there.
     pub reason: Reason,
 }
 
@@ -489,6 +498,7 @@ pub enum Reason {
 }
 
 impl Reason {
+    /// The paper's number for it.
     pub fn number(self) -> u8 {
         match self {
             Reason::Sizes => Refusal::Size.number(),

@@ -31,8 +31,11 @@ pub enum Kind {
 /// A text, and the kind and seed that make it again.
 #[derive(Clone, Debug, PartialEq, Eq)]
 pub struct Text {
+    /// How the text was made.
     pub kind: Kind,
+    /// What it was made from.
     pub seed: u64,
+    /// The text itself.
     pub bytes: Vec<u8>,
 }
 
@@ -44,6 +47,7 @@ pub struct Texts {
 }
 
 impl Texts {
+    /// The texts of a seed.
     pub fn new(seed: u64) -> Texts {
         Texts {
             random: Random::new(seed),
