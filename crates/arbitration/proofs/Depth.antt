@@ -1,5 +1,5 @@
 -- How deep the comparator tree is: the least d with 2^d at least n, and so at most floor(log2 n) + 1. Assumes nothing.
-use Prim.Native.Nat.{_+_, _≤_}
+use Prim.Native.Nat.{_+_}
 use native.Mathlib.Omega.{arith}
 use Rattle.model.specs.Priorities.{floorLog2}
 use Rattle.lists.specs.Walks.{comparisons}

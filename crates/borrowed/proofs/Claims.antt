@@ -13,7 +13,7 @@ use Rattle.model.specs.Commands.{claimedCore, malformed, nothingToClaim}
 use Rattle.model.specs.Borrowed.{claimable, takenFrom}
 use Rattle.model.proofs.Priorities.{top-priority-values}
 
-top-is : topPriority maxSources ≡ 511
+pub top-is : topPriority maxSources ≡ 511
 top-is = top-priority-values .3
 
 -- which of three cases two tests pick

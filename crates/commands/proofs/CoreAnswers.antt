@@ -54,7 +54,7 @@ module _ (s : Controller) (k : CoreId) (p : ℕ) (sound : wellFormed s ≡ true)
       let h : Checked s (SetCorePriority k p) = checked s (SetCorePriority k p) passes in
       rw is-set (
         effect-consistent s (SetCorePriority k p) w passes,
-        set-allDirty s ((w .consistent)) (k .0) (h .0) p (h .1),
+        set-allDirty s (w .consistent) (k .0) (h .0) p (h .1),
       )
 
   pub set-settles : {t : Retracted} → AfterRetractions (withCores s l) t → {r : Answer} → AfterDeliveries (t .state) 0 (t .cycles) r → r ≡ execute s (SetCorePriority k p)

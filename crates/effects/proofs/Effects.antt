@@ -7,12 +7,11 @@ use mathlib.Core.Path.{_≡_, refl}
 use mathlib.Core.Bool.{Bool, true, false}
 use Rattle.model.specs.declared.SourceId.{SourceId}
 use Rattle.model.specs.declared.Source.{Source}
-use Rattle.model.specs.declared.Core.{Core}
 use Rattle.model.specs.declared.Controller.{Controller}
 use Rattle.model.specs.declared.Command.{Command}
 use Rattle.model.specs.declared.Command.the-variants.{SetSourcePriority, Mask, Unmask, SetCorePriority, Trigger, Claim, Redeliver, Complete}
-use Rattle.model.specs.Records.{indexOf, sourceAt, coreAt, withSource, withMask}
-use Rattle.model.specs.WellFormed.{Holding, WellFormed, Consistent}
+use Rattle.model.specs.Records.{indexOf, sourceAt, withSource, withMask}
+use Rattle.model.specs.WellFormed.{WellFormed, Consistent}
 use Rattle.model.specs.Commands.{effect, refusalOf}
 use Rattle.settling.specs.Phases.{Delivering, Phase, retracting, delivering}
 use Rattle.effects.proofs.Checked.{Named, named-index, Checked, checked}

@@ -24,9 +24,9 @@ const CORE_SIZE: usize = 8;
 
 const SOURCES_FROM: usize = 4;
 
-const CORES_FROM: usize = 900;
+const CORES_FROM: usize = SOURCES_FROM + SOURCE_SIZE * SOURCES;
 
-pub const STATE_SIZE: usize = 1156;
+pub const STATE_SIZE: usize = CORES_FROM + CORE_SIZE * CORES;
 
 // ---- reading
 

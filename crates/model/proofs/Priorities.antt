@@ -1,9 +1,11 @@
 -- The priority field's width: the floor of the logarithm is exact, and document 01's four top priorities. Assumes nothing.
 --   top-lt                   the top priority of n sources is below 4n
+--   top-rises                more sources have no lower top priority
 --   top-none, top-shifted    the top priority as the code shifts it out of the leading zeros
 use Prim.Native.Nat.{ℕ, suc, _+_, _-_, _*_, _^_, _%_, _<_, _≤_}
 use mathlib.Core.Path.{_≡_, refl, ap, subst, _∙_}
 use native.Mathlib.Omega.{arith}
+use native.Mathlib.Decide.{decLe}
 use native.Mathlib.Numerals.{add-one}
 use native.Mathlib.Nat.{mod-eq-of-lt, pow-suc, pow-le-pow-right, one-mul}
 use lib.Count.{leadingZeros, leading-top, leading-le}
@@ -31,6 +33,25 @@ four-times k =
 pub top-lt : (n : ℕ) → 1 ≤ n → n < 2 ^ 16 → topPriority n < 4 * n
 unfolding topPriority priorityWidth
 top-lt n h g = omega (arith, floor-log2-exact n h g .0, four-times (floorLog2 n))
+
+-- what lies between two powers tells their exponents apart
+power-below : (a b x : ℕ) → 2 ^ a ≤ x → x < 2 ^ (b + 1) → a ≤ b
+power-below a b x low high = go (decLe a b)
+  where
+    go : Dec (a ≤ b) → a ≤ b
+    go (yes h) = h
+    go (no h) =
+        let p : 2 ^ (b + 1) ≤ 2 ^ a = pow-le-pow-right {n = 2} (omega arith) {i = b + 1} {j = a} (omega arith) in
+        absurd (omega arith)
+
+pub top-rises : (n n′ : ℕ) → 1 ≤ n → n ≤ n′ → n′ < 2 ^ 16 → topPriority n ≤ topPriority n′
+unfolding topPriority priorityWidth
+top-rises n n′ h le g =
+    let low : 2 ^ floorLog2 n ≤ n′ = omega (arith, floor-log2-exact n h (omega arith) .0) in
+    let widths : floorLog2 n ≤ floorLog2 n′ = power-below (floorLog2 n) (floorLog2 n′) n′ low (floor-log2-exact n′ (omega arith) g .1) in
+    let p : 2 ^ (floorLog2 n + 2) ≤ 2 ^ (floorLog2 n′ + 2)
+    = pow-le-pow-right {n = 2} (omega arith) {i = floorLog2 n + 2} {j = floorLog2 n′ + 2} (omega arith) in
+    omega arith
 
 -- ---- the top priority by a shift of 32 binary digits, from the leading zeros z of n
 

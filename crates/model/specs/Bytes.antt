@@ -9,7 +9,7 @@
 --   entriesIn cs b      the commands cs, each with the number and the id of its answer's bytes in the row b
 --   packed a            an answer as one number; numberIn, idIn, cyclesIn are its parts
 --   makeCall, executeCall, runCall    what the exported calls answer and write
-use Prim.Native.Nat.{ℕ, zero, suc, _+_, _*_, _/_, _%_}
+use Prim.Native.Nat.{ℕ, _+_, _*_, _/_, _%_}
 use mathlib.Core.Path.{_≡_}
 use mathlib.Core.List.{List, [], _∷_, _++_}
 use mathlib.Core.Bool.{Bool, _&&_, cond}

@@ -6,7 +6,7 @@
 --   make n m        a fresh controller, or refusal 2 with the fresh one of sizes (1, 1)
 --   run s cs        the state after a list of commands, refused ones included
 use Prim.Native.Nat.{ℕ, _*_}
-use mathlib.Core.List.{List, [], _∷_, map}
+use mathlib.Core.List.{List, map}
 use mathlib.Core.Bool.{Bool, true, false, not, cond}
 use lib.ListN.{set}
 use lib.Dec.{ltb, leb, eqb}

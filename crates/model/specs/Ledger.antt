@@ -8,7 +8,7 @@
 --   Placement n m b s P      P gives each core k below m a request P k, or none (0)
 --   sortDown l               l sorted from the top, repeats kept
 -- Of the state only the boxes and the cores' current priorities are read.
-use Prim.Native.Nat.{ℕ, zero, suc, _<_, _≤_}
+use Prim.Native.Nat.{ℕ, suc, _<_, _≤_}
 use mathlib.Core.Path.{_≡_}
 use mathlib.Core.List.{List, [], _∷_, _++_}
 use mathlib.Core.Bool.{Bool, true, false, not, _&&_, _||_, cond}

@@ -1,6 +1,6 @@
 -- Never more than 65,535 commands: a reader counts each that it gives, and gives none past that (`AtMost65535`). Assumes nothing.
 use Prim.Native.Nat.{ℕ, suc, _+_, _≤_, min}
-use mathlib.Core.Path.{_≡_, refl, sym, _∙_}
+use mathlib.Core.Path.{_≡_, refl}
 use mathlib.Core.Option.{Option, none, some}
 use mathlib.Core.List.{List, [], _∷_, tail}
 use mathlib.Core.Bool.{Bool, true, false, not, cond}

@@ -4,13 +4,10 @@
 --   Settles s        what settling a state in one of the phases gives
 use Prim.Native.Nat.{ℕ, _*_, _<_, _≤_}
 use mathlib.Core.Path.{_≡_}
-use mathlib.Core.Bool.{true, false}
-use lib.ListN.{length}
-use Rattle.model.specs.declared.Core.{Core}
+use mathlib.Core.Bool.{true}
 use Rattle.model.specs.declared.Controller.{Controller}
 use Rattle.model.specs.declared.Cycle.the-variants.{Rest}
-use Rattle.model.specs.Records.{maxSources, maxCores, resetSource, resetCore, emptyBox, indexOf, sourceAt, coreAt}
-use Rattle.model.specs.Priorities.{topPriority}
+use Rattle.model.specs.Records.{sourceAt, coreAt}
 use Rattle.model.specs.Requests.{currentPriority, claimed}
 use Rattle.model.specs.WellFormed.{Consistent, Clean, WellFormed}
 use Rattle.model.specs.Settling.{next, settle, isRetraction, isDelivery, countOf}

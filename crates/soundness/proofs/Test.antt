@@ -4,11 +4,11 @@
 --   test-exact                       both
 --   layers-exact                     the same of each layer
 use Rattle.model.specs.Statements.{LayersExact, TestExact}
-use Rattle.model.specs.WellFormed.{Quiet, quiet, consistent, Consistent, Clean, sizesInRange, listsWhole, sourcesInRange, coresInRange, sparesReset, boxesBacked, boxesDistinct, boxesClean, candidatesSettled, coveredSettled, wellFormed, WellFormed, Holding}
+use Rattle.model.specs.WellFormed.{Quiet, quiet, consistent, Consistent, Clean, listsWhole, sourcesInRange, coresInRange, sparesReset, boxesBacked, boxesDistinct, boxesClean, candidatesSettled, coveredSettled, wellFormed, WellFormed, Holding}
 use Prim.Native.Nat.{ℕ, _<_, _≤_}
 use mathlib.Core.Path.{_≡_, sym}
 use mathlib.Core.Logic.{_↔_, Iff·trans}
-use mathlib.Core.Bool.{true, false, _&&_}
+use mathlib.Core.Bool.{true, _&&_}
 use mathlib.Core.List.{List}
 use lib.ListN.{length, getD}
 use lib.Dec.{leb}

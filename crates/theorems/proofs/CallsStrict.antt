@@ -11,13 +11,13 @@ use Rattle.model.specs.declared.Command.the-variants.{SetSourcePriority, Mask, 
 use Rattle.model.specs.Records.{maxSources, reset}
 use Rattle.model.specs.WellFormed.{WellFormed}
 use Rattle.model.specs.Commands.{refusal, answeredId, settled, refused, execute, run}
-use Rattle.model.specs.Ledger.{Entry, entryWith, answersTo, paired, entries}
+use Rattle.model.specs.Ledger.{Entry, entryWith, paired, entries}
 use Rattle.model.specs.Bytes.{stateBytes, stateFrom, packed, numberIn, idIn, cyclesIn, callOf, executeCall}
 use Rattle.soundness.proofs.Reset.{reset-wellFormed}
 use Rattle.effects.proofs.Accepted.{by-answer}
 use Rattle.effects.proofs.Checked.{accepted}
 use Rattle.effects.proofs.Kept.{wellFormed-kept}
-use Rattle.theorems.proofs.Refusals.{refusals-exact, refused-unchanged}
+use Rattle.theorems.proofs.Refusals.{refusals-exact}
 use Rattle.encoding.specs.Statements.{Sized}
 use Rattle.encoding.proofs.RoundTrip.{state-read-back, state-encoded}
 use Rattle.encoding.proofs.Commands.{named, packed-read}

@@ -1,17 +1,17 @@
 -- Demand 3 over every list of commands (`DemandThree`): the ledger matches the state from the reset on, each command keeps the
 -- match and soundness, and a sound state that the ledger matches is priority-strict. Assumes nothing.
 use Prim.Native.Nat.{ℕ, _<_}
-use mathlib.Core.Path.{_≡_, refl, sym, ap, subst}
+use mathlib.Core.Path.{_≡_, refl, sym, subst}
 use mathlib.Core.List.{List, [], _∷_}
 use native.Mathlib.Omega.{arith}
-use Rattle.model.specs.Ledger.{paired, Ledger, Entry, opening, ledger, entryOf, entries, post, entriesBy}
+use Rattle.model.specs.Ledger.{paired, Ledger, opening, ledger, entryOf, entries, post}
 use Rattle.model.specs.Behaviours.{answersBy, runBy}
 use Rattle.model.specs.declared.Controller.{Controller}
 use Rattle.model.specs.declared.Answer.{Answer}
 use Rattle.model.specs.declared.Command.{Command}
 use Rattle.model.specs.Records.{resetSource, sourceAt, reset}
 use Rattle.model.specs.WellFormed.{WellFormed}
-use Rattle.model.specs.Commands.{execute, make, run}
+use Rattle.model.specs.Commands.{execute, run}
 use Rattle.model.specs.Statements.{InRange, PriorityStrict, EveryListStrict, DemandThree}
 use Rattle.soundness.proofs.Reset.{core-reset, source-reset, reset-wellFormed, makes-exactly}
 use Rattle.effects.proofs.Kept.{wellFormed-kept, nothing-cut-short, cycles-bounded}

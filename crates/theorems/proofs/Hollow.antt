@@ -7,7 +7,7 @@ use lib.ListN.{getD}
 use lib.Dec.{ltb, eqb}
 use Rattle.model.specs.declared.Controller.{Controller}
 use Rattle.model.specs.Records.{coreAt}
-use Rattle.model.specs.Ledger.{Ledger, Request, noRequest, openRequest, priorityOf, Placement, given, inBoxes, currentPriorities}
+use Rattle.model.specs.Ledger.{Ledger, noRequest, openRequest, priorityOf, given, inBoxes, currentPriorities}
 use Rattle.lists.specs.Rows.{row}
 use Rattle.lists.specs.Sorting.{sortDown}
 use Rattle.lists.proofs.Bools.{clash}

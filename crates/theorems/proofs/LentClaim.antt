@@ -7,24 +7,24 @@ use native.Mathlib.Omega.{arith}
 use lib.ListN.{length}
 use lib.Seq.{getD-set-same}
 use borrow.Author.Tests.{lt-ltb}
+use Rattle.borrowed.proofs.Claims.{top-is, clean-only, taken-empty, taken-good}
+use Rattle.model.proofs.Priorities.{top-rises, top-lt}
+use Rattle.model.specs.Records.{maxSources, noCore, coreAt, withCore, taken}
 use Rattle.model.specs.declared.CoreId.{CoreId}
 use Rattle.model.specs.declared.Core.{Core}
 use Rattle.model.specs.declared.Controller.{Controller}
 use Rattle.model.specs.declared.Answer.{Answer}
 use Rattle.model.specs.declared.Taken.{Taken}
 use Rattle.model.specs.declared.Command.the-variants.{Claim}
-use Rattle.model.specs.Records.{noCore, coreAt, withCore, taken}
 use Rattle.model.specs.Priorities.{topPriority}
 use Rattle.model.specs.WellFormed.{WellFormed, Holding}
 use Rattle.model.specs.Commands.{claimedCore, nothingToClaim, refusalOf, refusal, refused, execute}
 use Rattle.model.specs.Borrowed.{claimable, takenFrom, LentClaimIsCommand}
 use Rattle.lists.proofs.Bools.{not-in, Flag, on, off, flag}
-use Rattle.model.proofs.Priorities.{top-lt}
 use Rattle.soundness.proofs.Test.{wellFormed-in}
 use Rattle.effects.proofs.Accepted.{execute-refused}
 use Rattle.effects.proofs.AtRest.{claim-answer}
 use Rattle.effects.proofs.CoreEffects.{box-range}
-use Rattle.borrowed.proofs.Claims.{clean-only, taken-empty, taken-good}
 
 module _ (s : Controller) (k : CoreId) (w : WellFormed s) (k-lt : k .0 < s .m) where
   abbrev c : Core
@@ -53,9 +53,10 @@ module _ (s : Controller) (k : CoreId) (w : WellFormed s) (k-lt : k .0 < s .m) w
     can-claim : claimable c ≡ true
     can-claim =
         let b : Holding s c = w .consistent .backed (k .0) k-lt filled in
-        let (low, high) = box-range s ((w .consistent)) (k .0) k-lt filled in
-        let top : topPriority (s .n) ≤ 511 = omega (arith, top-lt (s .n) (w .consistent .some-source) (omega (arith, w .consistent .n-le)), w .consistent .n-le) in
-        sym (clean-only c (b .some-id) (omega arith) low (omega arith) (b .above (w .clean (k .0) k-lt))) ∙ not-in (w .clean (k .0) k-lt)
+        let (low, high) = box-range s (w .consistent) (k .0) k-lt filled in
+        let top : topPriority (s .n) ≤ topPriority maxSources
+        = top-rises (s .n) maxSources (w .consistent .some-source) (w .consistent .n-le) (omega arith) in
+        sym (clean-only c (b .some-id) (omega arith) low (omega (arith, top-is)) (b .above (w .clean (k .0) k-lt))) ∙ not-in (w .clean (k .0) k-lt)
 
     full : takenFrom c ≡ left (execute s (Claim k))
     full =

@@ -7,7 +7,7 @@ use borrow.Author.Tests.{not-true}
 use Rattle.model.proofs.Claims.{claimed-out}
 use Rattle.model.specs.declared.Controller.{Controller}
 use Rattle.model.specs.Records.{indexOf, sourceAt, coreAt}
-use Rattle.model.specs.Requests.{boxed, claimed, Owner, bySource, byBox, bySoftware, Owns}
+use Rattle.model.specs.Requests.{boxed, Owner, bySource, byBox, bySoftware, Owns}
 use Rattle.model.specs.WellFormed.{WellFormed, Holding}
 use Rattle.model.specs.Statements.{OneOwner}
 use Rattle.lists.proofs.Bools.{and-in, and-l, and-r, not-in, Flag, on, off, flag}

@@ -7,16 +7,14 @@ use lib.ListN.{length}
 use borrow.Author.Tests.{not-true}
 use Rattle.model.specs.Behaviours.{answersBy}
 use Rattle.model.specs.declared.Controller.{Controller}
-use Rattle.model.specs.declared.Answer.{Answer}
 use Rattle.model.specs.declared.Command.{Command}
 use Rattle.model.specs.Records.{reset}
 use Rattle.model.specs.WellFormed.{sizesInRange}
-use Rattle.model.specs.Commands.{execute, run}
+use Rattle.model.specs.Commands.{execute}
 use Rattle.model.specs.Ledger.{opening, ledger, entries, answersTo}
 use Rattle.model.specs.Statements.{InRange, PriorityStrict}
 use Rattle.lists.proofs.Exact.{refuted-exact}
 use Rattle.soundness.proofs.Clauses.{sizes-exact}
-use Rattle.soundness.proofs.Reset.{makes-exactly}
 use Rattle.theorems.proofs.DemandThree.{reset-strict}
 use Rattle.recording.specs.Reading.{reading}
 use Rattle.recording.specs.Replay.{Replay, replayFrom, replayed}

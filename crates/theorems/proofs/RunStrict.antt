@@ -11,14 +11,12 @@ use Rattle.model.specs.Behaviours.{runBy}
 use Rattle.lists.proofs.Bools.{and-in}
 use Rattle.model.specs.declared.Controller.{Controller}
 use Rattle.model.specs.declared.Command.{Command}
-use Rattle.model.specs.declared.Answer.{Answer}
 use Rattle.model.specs.Records.{reset}
 use Rattle.model.specs.WellFormed.{WellFormed}
 use Rattle.model.specs.Commands.{execute, run}
-use Rattle.model.specs.Ledger.{opening, ledger, entries}
 use Rattle.model.specs.Bytes.{stateSize, stateBytes, commandSize, commandBytes, commandsIn, answerSize, makeCall, runCall}
 use Rattle.lists.specs.Rows.{joined}
-use Rattle.model.specs.Statements.{InRange, PriorityStrict}
+use Rattle.model.specs.Statements.{InRange}
 use Rattle.soundness.proofs.Reset.{reset-wellFormed, makes-exactly}
 use Rattle.effects.proofs.Kept.{wellFormed-kept}
 use Rattle.theorems.proofs.DemandThree.{reset-strict}

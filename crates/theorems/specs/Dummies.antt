@@ -2,7 +2,7 @@
 -- needs to be believed. Each is a function from a state and a command to an answer, as `execute` is.
 -- Source: document 01, "How tight each statement is" and "Numbers for no".
 use Prim.Native.Nat.{ℕ, suc, _*_}
-use mathlib.Core.List.{List, map}
+use mathlib.Core.List.{map}
 use mathlib.Core.Bool.{Bool, true, _&&_, cond}
 use lib.Dec.{eqb}
 use Rattle.model.specs.declared.Core.{Core}
