@@ -1,54 +1,85 @@
--- The loop over the sources: what one source's test says, and the loop's ends. Assumes nothing.
---   Fits                     the source is in range, and not above the least current priority if it is a candidate
---   fits-pending, fits-idle  from the tests that a source passed, with a request and without
---   sources-fit-exact        every source fits, and the spare ones are reset
---   fits-end                 the answer where every source fits
-use Prim.Native.Nat.{ℕ, _<_, _≤_}
-use mathlib.Core.Path.{_≡_}
-use mathlib.Core.Bool.{Bool, true, false, _&&_}
+-- The pass over the sources: what is asked of one source, and what the loop keeps. Assumes nothing.
+--   fits-pending, fits-idle         from the tests that a source passed, with a request and without
+--   sources-sound-exact             every source is in range, and the spare ones are reset
+--   sources-refused, -passed        the pass's survey where that fails, and where it holds
+--   waiting-begin, waiting-more     the greatest priority of a candidate, where the loop begins and with one source more
+--   waiting-raised, waiting-same    that source is a candidate above the others, or not
+use Prim.Native.Nat.{ℕ, _+_, _<_, _≤_, max}
+use mathlib.Core.Path.{_≡_, refl, sym, _∙_}
+use mathlib.Core.Bool.{Bool, true, false, cond}
 use mathlib.Core.List.{List}
 use native.Mathlib.Omega.{arith}
+use native.Mathlib.Numerals.{add-one}
 use lib.ListN.{getD}
 use Rattle.model.specs.declared.Source.{Source}
 use Rattle.model.specs.Records.{maxSources, noSource, resetSource}
 use Rattle.model.specs.Requests.{candidate}
-use Rattle.soundness.specs.Loops.{sourceFits, sourcesFit, spareSourcesReset}
+use Rattle.lists.specs.Walks.{every}
+use Rattle.soundness.specs.declared.Surveyed.{Surveyed}
+use Rattle.soundness.specs.Survey.{surveyWith, inconsistentSurvey, greatest, greatestWaiting, waitingPriority}
+use Rattle.soundness.specs.Loops.{spareSource, sourcesSound, sourcesSurvey}
 use Rattle.lists.proofs.Bools.{clash}
-use Rattle.lists.proofs.Exact.{Exact, _and_, implies-exact, leb-exact, from-exact, every-exact}
+use Rattle.lists.proofs.Exact.{Exact, _and_, refused, from-exact, every-exact}
 use Rattle.soundness.proofs.Clauses.{SourceFits, source-exact, reset-source-exact}
 
-abbrev pub Fits : ℕ → ℕ → Source → Type 0
-Fits top lowest r = SourceFits top r × (candidate r ≡ true → r .priority ≤ lowest)
+module _ (top : ℕ) (r : Source) (g : (1 ≤ r .configured) × (r .configured ≤ top)) where
+  pub fits-pending : r .pending ≡ true → (1 ≤ r .priority) × (r .priority ≤ top) → SourceFits top r
+  fits-pending e p = record { configured = g; request = λ f. p; idle = λ f. clash e f }
 
-pub fits-exact : (top lowest : ℕ) (r : Source) → Exact (sourceFits top lowest r) (Fits top lowest r)
-fits-exact top lowest r = source-exact top r and implies-exact (candidate r) (leb-exact (r .priority) lowest)
+  pub fits-idle : r .pending ≡ false → r .priority ≡ 0 → r .delivered ≡ false → SourceFits top r
+  fits-idle e p d = record { configured = g; request = λ f. clash f e; idle = λ f. (d, p) }
 
-module _ (top lowest : ℕ) (r : Source) (g : (1 ≤ r .configured) × (r .configured ≤ top)) where
-  pub fits-pending : r .pending ≡ true → (1 ≤ r .priority) × (r .priority ≤ top) → (candidate r ≡ true → r .priority ≤ lowest) → Fits top lowest r
-  fits-pending e p s = (record { configured = g; request = λ f. p; idle = λ f. clash e f }, s)
+abbrev pub fitsAt : List Source → ℕ → ℕ → Type 0
+fitsAt l top i = SourceFits top (getD l i noSource)
 
-  pub fits-idle : r .pending ≡ false → r .priority ≡ 0 → r .delivered ≡ false → Fits top lowest r
-  fits-idle e p d = (record { configured = g; request = λ f. clash f e; idle = λ f. (d, p) }, λ f. omega arith)
+-- every source below n is in range, and those from n on are reset
+abbrev pub SourcesSound : List Source → ℕ → ℕ → Type 0
+SourcesSound l n top =
+    ((i : ℕ) → i < n → fitsAt l top i) × ((i : ℕ) → i < maxSources → n ≤ i → getD l i noSource ≡ resetSource)
 
-abbrev pub fitsAt : List Source → ℕ → ℕ → ℕ → Type 0
-fitsAt l top lowest i = Fits top lowest (getD l i noSource)
+pub spare-sources-exact : (l : List Source) (n : ℕ) →
+    Exact (every maxSources (spareSource l n)) ((i : ℕ) → i < maxSources → n ≤ i → getD l i noSource ≡ resetSource)
+spare-sources-exact l n = every-exact maxSources (λ i. from-exact i n (reset-source-exact (getD l i noSource)))
 
--- every source below n fits, and those from n on are reset
-abbrev pub AllFit : List Source → ℕ → ℕ → ℕ → Type 0
-AllFit l n top lowest =
-    ((i : ℕ) → i < n → fitsAt l top lowest i) × ((i : ℕ) → i < maxSources → n ≤ i → getD l i noSource ≡ resetSource)
+pub sources-sound-exact : (l : List Source) (n top : ℕ) → Exact (sourcesSound l n top) (SourcesSound l n top)
+unfolding sourcesSound
+sources-sound-exact l n top = every-exact n (λ i. source-exact top (getD l i noSource)) and spare-sources-exact l n
 
-module _ (l : List Source) (n top lowest : ℕ) where
-  fits-all : Exact (sourcesFit l n top lowest) ((i : ℕ) → i < n → fitsAt l top lowest i)
-  unfolding sourcesFit
-  fits-all = every-exact n (λ i. fits-exact top lowest (getD l i noSource))
+module _ (v : Surveyed) (l : List Source) (n top : ℕ) where
+  pub sources-refused : ¬ SourcesSound l n top → inconsistentSurvey ≡ sourcesSurvey v l n top
+  unfolding sourcesSurvey
+  sources-refused r = rw (sym (refused (sources-sound-exact l n top) r))
 
-  spares-all : Exact (spareSourcesReset l n) ((i : ℕ) → i < maxSources → n ≤ i → getD l i noSource ≡ resetSource)
-  unfolding spareSourcesReset
-  spares-all = every-exact maxSources (λ i. from-exact i n (reset-source-exact (getD l i noSource)))
+  pub sources-passed : SourcesSound l n top →
+      surveyWith true (v .clean) (v .lowest) (v .covered) (greatestWaiting l n) ≡ sourcesSurvey v l n top
+  unfolding sourcesSurvey
+  sources-passed p = rw (sources-sound-exact l n top .1 p)
 
-  pub sources-fit-exact : Exact (sourcesFit l n top lowest && spareSourcesReset l n) (AllFit l n top lowest)
-  sources-fit-exact = fits-all and spares-all
+-- ---- the greatest priority of a candidate
 
-  pub fits-end : {fresh : Bool} → ((i : ℕ) → i < n → fitsAt l top lowest i) → fresh ≡ spareSourcesReset l n → fresh ≡ sourcesFit l n top lowest && spareSourcesReset l n
-  fits-end f e = rw (fits-all .1 f) e
+pub waiting-begin : (l : List Source) → 0 ≡ greatestWaiting l 0
+unfolding greatest
+waiting-begin l = refl
+
+waiting-more : (l : List Source) (i : ℕ) → max (greatestWaiting l i) (waitingPriority (getD l i noSource)) ≡ greatestWaiting l (i + 1)
+unfolding greatest
+waiting-more l i = rw add-one
+
+raised : (c : Bool) (w p : ℕ) → c ≡ true → w < p → p ≡ max w (cond c p 0)
+raised true w p e h = omega arith
+raised false w p e h = clash e refl
+
+same : (c : Bool) (w p : ℕ) → (c ≡ true → p ≤ w) → w ≡ max w (cond c p 0)
+same true w p h = omega (arith, h refl)
+same false w p h = omega arith
+
+module _ (l : List Source) (i : ℕ) where
+  abbrev here : Source
+  here = getD l i noSource
+
+  module _ {w w′ : ℕ} (e : w ≡ greatestWaiting l i) where
+    pub waiting-raised : candidate here ≡ true → w < here .priority → w′ ≡ here .priority → w′ ≡ greatestWaiting l (i + 1)
+    waiting-raised c h x = x ∙ raised _ w _ c h ∙ rw e (waiting-more l i)
+
+    pub waiting-same : (candidate here ≡ true → here .priority ≤ w) → w′ ≡ w → w′ ≡ greatestWaiting l (i + 1)
+    waiting-same h x = x ∙ same _ w _ h ∙ rw e (waiting-more l i)

@@ -1,28 +1,30 @@
 -- What the loop over the cores keeps of the cores below k: where it begins, and one turn. Assumes nothing.
---   Boxes s seen covered k     they are sound, `seen` marks the sources in their boxes, and `covered` is the greatest configured
---                              priority under a filled box, 0 if there is none
---   Lowest s lowest k          the least of their current priorities, 65535 if there is none
+--   Boxes s seen k             they are sound, and `seen` marks the sources in their boxes
 --   marked-twice               the next core's source lies in an earlier box
 --   filled-turn, empty-turn    one core more, with a filled box and with an empty one
---   lowest-lower, lowest-same  one core more, below the least so far and not below it
-use Prim.Native.Nat.{ℕ, suc, _+_, _-_, _<_, _≤_}
-use mathlib.Core.Path.{_≡_, sym, _∙_, ap}
+--   cores-begin, cores-more    what they show of the whole
+use Prim.Native.Nat.{ℕ, suc, _+_, _-_, _<_, _≤_, min}
+use mathlib.Core.Path.{_≡_, refl, sym, _∙_, ap}
 use mathlib.Core.List.{List}
-use mathlib.Core.Bool.{Bool, true, false, _||_, or-false, and-false}
+use mathlib.Core.Bool.{Bool, true, false, cond, _||_, or-false, and-false}
 use native.Mathlib.Omega.{arith}
 use native.Mathlib.Numerals.{add-one}
 use native.Mathlib.Decide.{ℕ-discrete}
+use lib.Dec.{ltb}
 use lib.ListN.{length, getD, set, replicate, length-set, length-replicate, getD-replicate}
 use lib.Seq.{getD-set-same, getD-set-other}
 use borrow.Author.Count.{below-more}
-use borrow.Author.Tests.{ne-eqb}
+use borrow.Author.Tests.{ne-eqb, ltb-true, ltb-false}
 use Rattle.model.specs.declared.Core.{Core}
 use Rattle.model.specs.declared.Controller.{Controller}
 use Rattle.model.specs.Records.{maxSources, noCore, coreAt}
 use Rattle.model.specs.Priorities.{topPriority}
-use Rattle.lists.specs.Walks.{some}
+use Rattle.lists.specs.Walks.{every, some, walk}
 use Rattle.model.specs.Requests.{currentPriority, holds, boxed}
-use Rattle.lists.proofs.Bools.{or-in-r, clash}
+use Rattle.model.specs.Arbitration.{least, leastPriority}
+use Rattle.soundness.specs.Survey.{surveyWith, greatest}
+use Rattle.soundness.specs.Loops.{withCore, coresTo}
+use Rattle.lists.proofs.Bools.{or-in-r}
 use Rattle.model.proofs.Boxes.{holds-in, holds-filled, holds-source, boxed-out}
 use Rattle.soundness.proofs.Cores.{CoreNames, CoreSound, idAt, backedAt, filled-sound, empty-sound}
 
@@ -46,25 +48,21 @@ holds-empty id c e = rw e
 
 -- ---- the boxes
 
-pub record Boxes (s : Controller) (seen : List Bool) (covered k : ℕ) : Type 0 where
+pub record Boxes (s : Controller) (seen : List Bool) (k : ℕ) : Type 0 where
   pub sound : (j : ℕ) → j < k → CoreSound s j
   pub seen-length : length seen ≡ maxSources
   pub marked : (i : ℕ) → i < maxSources → getD seen i false ≡ boxed (s .cores) k (suc i)
-  pub ge : (j : ℕ) → j < k → (coreAt s j) .message .filled ≡ true → (coreAt s j) .configured ≤ covered
-  pub least : (q : ℕ) → ((j : ℕ) → j < k → (coreAt s j) .message .filled ≡ true → (coreAt s j) .configured ≤ q) → covered ≤ q
 
-pub boxes-begin : (s : Controller) → Boxes s (replicate maxSources false) 0 0
+pub boxes-begin : (s : Controller) → Boxes s (replicate maxSources false) 0
 unfolding boxed some
 boxes-begin s =
     record {
       sound = λ j h. absurd (omega arith);
       seen-length = length-replicate maxSources false;
       marked = λ i h. getD-replicate maxSources i false false h;
-      ge = λ j h. absurd (omega arith);
-      least = λ q h. omega arith;
     }
 
-module _ {s : Controller} {seen : List Bool} {covered k : ℕ} (b : Boxes s seen covered k) (some-id : 1 ≤ idAt s k) (id-le : idAt s k ≤ maxSources) where
+module _ {s : Controller} {seen : List Bool} {k : ℕ} (b : Boxes s seen k) (some-id : 1 ≤ idAt s k) (id-le : idAt s k ≤ maxSources) where
   mark-is : getD seen (idAt s k - 1) false ≡ boxed (s .cores) k (idAt s k)
   mark-is =
       let e : suc (idAt s k - 1) ≡ idAt s k = omega arith in
@@ -84,15 +82,13 @@ module _ {s : Controller} {seen : List Bool} {covered k : ℕ} (b : Boxes s seen
         source = holds-source (idAt s k) (coreAt s (w .at)) (w .holds);
       })
 
-module _ {s : Controller} {seen : List Bool} {covered k : ℕ} (b : Boxes s seen covered k) (o : CoreSound s k) where
-  boxes-empty : (coreAt s k) .message .filled ≡ false → Boxes s seen covered (k + 1)
+module _ {s : Controller} {seen : List Bool} {k : ℕ} (b : Boxes s seen k) (o : CoreSound s k) where
+  boxes-empty : (coreAt s k) .message .filled ≡ false → Boxes s seen (k + 1)
   boxes-empty e =
       record {
         sound = below-more (CoreSound s) k (b .sound) o;
         seen-length = b .seen-length;
         marked = λ i h. b .marked i h ∙ sym (boxed-same (s .cores) k (suc i) (holds-empty (suc i) (coreAt s k) e));
-        ge = below-more (λ j. (coreAt s j) .message .filled ≡ true → (coreAt s j) .configured ≤ covered) k (b .ge) (λ f. clash f e);
-        least = λ q h. b .least q (λ j g. h j (omega arith));
       }
 
   module _ (e : (coreAt s k) .message .filled ≡ true) (some-id : 1 ≤ idAt s k) (id-le : idAt s k ≤ maxSources) where
@@ -108,49 +104,47 @@ module _ {s : Controller} {seen : List Bool} {covered k : ℕ} (b : Boxes s seen
             getD-set-other seen (idAt s k - 1) i true false p ∙
             b .marked i h ∙ sym (boxed-same (s .cores) k (suc i) (holds-other (suc i) (coreAt s k) (λ q. p (omega arith))))
 
-    boxes-filled : (covered′ : ℕ) → covered ≤ covered′ → (coreAt s k) .configured ≤ covered′ → ((q : ℕ) → covered ≤ q → (coreAt s k) .configured ≤ q → covered′ ≤ q) → Boxes s (set seen (idAt s k - 1) true) covered′ (k + 1)
-    boxes-filled covered′ p q r =
+    boxes-filled : Boxes s (set seen (idAt s k - 1) true) (k + 1)
+    boxes-filled =
         record {
           sound = below-more (CoreSound s) k (b .sound) o;
           seen-length = length-set seen (idAt s k - 1) true ∙ b .seen-length;
           marked = marked-more;
-          ge = below-more (λ j. (coreAt s j) .message .filled ≡ true → (coreAt s j) .configured ≤ covered′) k (λ j h f. omega (arith, b .ge j h f)) (λ f. q);
-          least = λ x h. r x (b .least x (λ j g. h j (omega arith))) (h k (omega arith) e);
         }
 
 -- ---- one turn, from its tests
 
-module _ {s : Controller} {seen : List Bool} {covered k : ℕ} (b : Boxes s seen covered k) (f : CoreNames (s .n) (topPriority (s .n)) (coreAt s k)) {seen′ : List Bool} {covered′ : ℕ} where
-  pub empty-turn : (coreAt s k) .message .filled ≡ false → seen′ ≡ seen → covered′ ≡ covered → Boxes s seen′ covered′ (k + 1)
-  empty-turn e x y = rw (x, y) (boxes-empty b (empty-sound s k f e) e)
+module _ {s : Controller} {seen next : List Bool} {k : ℕ} (b : Boxes s seen k)
+    (f : CoreNames (s .n) (topPriority (s .n)) (coreAt s k)) where
+  pub empty-turn : (coreAt s k) .message .filled ≡ false → next ≡ seen → Boxes s next (k + 1)
+  empty-turn e x = rw x (boxes-empty b (empty-sound s k f e) e)
 
-  pub filled-turn : s .n ≤ maxSources → (coreAt s k) .message .filled ≡ true → getD seen (idAt s k - 1) false ≡ false → backedAt s k ≡ true → seen′ ≡ set seen (idAt s k - 1) true → covered ≤ covered′ → (coreAt s k) .configured ≤ covered′ → ((q : ℕ) → covered ≤ q → (coreAt s k) .configured ≤ q → covered′ ≤ q) → Boxes s seen′ covered′ (k + 1)
-  filled-turn h e u g x low high least =
+  pub filled-turn : s .n ≤ maxSources → (coreAt s k) .message .filled ≡ true →
+      getD seen (idAt s k - 1) false ≡ false → backedAt s k ≡ true → next ≡ set seen (idAt s k - 1) true → Boxes s next (k + 1)
+  filled-turn h e u g x =
       let (some-id, id-le) = f .1 e in
       let small : idAt s k ≤ maxSources = omega arith in
       let o = filled-sound s k f e (unmarked b some-id small u) g in
-      rw x (boxes-filled b o e some-id small covered′ low high least)
+      rw x (boxes-filled b o e some-id small)
 
--- ---- the least current priority
+-- ---- what the cores show
 
-pub record Lowest (s : Controller) (lowest k : ℕ) : Type 0 where
-  pub le : (j : ℕ) → j < k → lowest ≤ currentPriority (coreAt s j)
-  pub greatest : (p : ℕ) → p ≤ 65535 → ((j : ℕ) → j < k → p ≤ currentPriority (coreAt s j)) → p ≤ lowest
+module _ (l : List Core) where
+  abbrev currentAt : ℕ → ℕ
+  currentAt k = currentPriority (getD l k noCore)
 
-pub lowest-begin : (s : Controller) → Lowest s 65535 0
-lowest-begin s = record { le = λ j h. absurd (omega arith); greatest = λ p h g. h }
+  winner-min : (w k : ℕ) (y : Bool) → ltb (currentAt k) (currentAt w) ≡ y → currentAt (cond y k w) ≡ min (currentAt w) (currentAt k)
+  winner-min w k true e = omega (arith, ltb-true (currentAt k) (currentAt w) e)
+  winner-min w k false e = omega (arith, ltb-false (currentAt k) (currentAt w) e)
 
-module _ {s : Controller} {lowest k : ℕ} (l : Lowest s lowest k) {p : ℕ} (e : p ≡ currentPriority (coreAt s k)) where
-  pub lowest-lower : p < lowest → Lowest s p (k + 1)
-  lowest-lower h =
-      record {
-        le = below-more (λ j. p ≤ currentPriority (coreAt s j)) k (λ j g. omega (arith, l .le j g)) (omega arith);
-        greatest = λ q a g. omega (arith, g k (omega arith));
-      }
+  least-more : (k : ℕ) → leastPriority l (suc k) ≡ min (leastPriority l k) (currentAt k)
+  unfolding leastPriority least walk
+  least-more k = winner-min (least l k) k _ refl
 
-  pub lowest-same : lowest ≤ p → Lowest s lowest (k + 1)
-  lowest-same h =
-      record {
-        le = below-more (λ j. lowest ≤ currentPriority (coreAt s j)) k (l .le) (omega arith);
-        greatest = λ q a g. l .greatest q a (λ j i. g j (omega arith));
-      }
+  pub cores-begin : surveyWith true true (currentAt 0) 0 0 ≡ coresTo l 0
+  unfolding every greatest leastPriority least walk
+  cores-begin = refl
+
+  pub cores-more : (k : ℕ) → withCore (coresTo l k) (getD l k noCore) ≡ coresTo l (k + 1)
+  unfolding withCore every greatest
+  cores-more k = rw (add-one, least-more k)

@@ -3,6 +3,7 @@
 --   wellFormed-out, wellFormed-in    the two directions
 --   test-exact                       both
 --   layers-exact                     the same of each layer
+--   consistent-exact                 the first of them
 use Rattle.model.specs.Statements.{LayersExact, TestExact}
 use Rattle.model.specs.WellFormed.{Quiet, quiet, consistent, Consistent, Clean, listsWhole, sourcesInRange, coresInRange, sparesReset, boxesBacked, boxesDistinct, boxesClean, candidatesSettled, coveredSettled, wellFormed, WellFormed, Holding}
 use Prim.Native.Nat.{ℕ, _<_, _≤_}
@@ -110,7 +111,7 @@ module _ (s : Controller) (some : 1 ≤ s .m) where
 
 -- ---- the layers, and the whole
 
-consistent-exact : (s : Controller) → Exact (consistent s) (Consistent s)
+pub consistent-exact : (s : Controller) → Exact (consistent s) (Consistent s)
 unfolding consistent
 consistent-exact s =
     Iff·trans

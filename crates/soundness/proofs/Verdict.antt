@@ -1,90 +1,145 @@
--- The loops' answers together: what they say of a well-formed state, and that they make the state well formed. Assumes nothing.
---   spare-cores-exact    the test of the spare cores says that each of them is reset
---   covered-le           in a well-formed state no covered priority is above the least current one
---   sources-fit          in a well-formed state every source fits, and the spare ones are reset
---   well-formed          a state that passed every test is well formed
-use Prim.Native.Nat.{ℕ, _<_, _≤_}
-use mathlib.Core.Path.{_≡_}
-use mathlib.Core.Bool.{Bool}
-use mathlib.Core.List.{List}
+-- The passes together, and the verdicts of a survey. Assumes nothing.
+--   consistent-passes       with sizes in range, a state is consistent just if both passes succeed
+--   survey-refused          the survey of a state that isn't consistent
+--   cores-consistent        the pass over the cores tells whether they are sound
+--   survey-passes           the survey of a state whose cores are sound, from the two passes
+--   survey-consistent       a survey tells whether the state is consistent
+--   well-formed-exact       and whether it is well formed: it is consistent and clean, and nothing is above the least current priority
+use Prim.Native.Nat.{ℕ, zero, suc, _≤_, max}
+use mathlib.Core.Path.{_≡_, refl, sym, _∙_, ap}
+use mathlib.Core.Bool.{Bool, true, false, not, cond, _&&_, _||_}
+use lib.ListN.{length}
+use lib.Dec.{leb}
 use native.Mathlib.Omega.{arith}
-use lib.ListN.{length, getD}
-use Rattle.model.specs.declared.Core.{Core}
+use borrow.Author.Tests.{le-leb}
 use Rattle.model.specs.declared.Controller.{Controller}
-use Rattle.model.specs.Records.{maxSources, maxCores, noCore, resetCore, sourceAt, coreAt}
+use Rattle.model.specs.Records.{maxSources, maxCores}
 use Rattle.model.specs.Priorities.{topPriority}
-use Rattle.lists.specs.Walks.{every}
-use Rattle.model.specs.WellFormed.{WellFormed}
+use Rattle.model.specs.WellFormed.{consistent, Consistent, boxesClean, candidatesSettled, coveredSettled, quiet, wellFormed}
 use Rattle.model.specs.Statements.{InRange}
-use Rattle.model.proofs.Candidates.{candidate-pending}
-use Rattle.model.proofs.Priorities.{top-lt}
-use Rattle.soundness.specs.Loops.{spareCore}
-use Rattle.lists.proofs.Exact.{Exact, from-exact, every-exact}
-use Rattle.soundness.proofs.Clauses.{reset-core-exact}
-use Rattle.soundness.proofs.Test.{sources-apart}
-use Rattle.soundness.proofs.Fits.{fitsAt, AllFit}
-use Rattle.soundness.proofs.Cores.{CoreSound}
-use Rattle.soundness.proofs.Marks.{Boxes, Lowest}
+use Rattle.lists.specs.Walks.{every}
+use Rattle.soundness.specs.declared.Surveyed.{Surveyed}
+use Rattle.soundness.specs.Survey.{inconsistentSurvey, greatest, shown, surveyOf}
+use Rattle.soundness.specs.Loops.{coresSound, coresSurvey, bothSound, sourcesSurvey}
+use Rattle.lists.proofs.Exact.{Exact, _and_, flag-exact, leb-exact, given, agree}
+use Rattle.soundness.proofs.Test.{sources-apart, consistent-exact}
+use Rattle.soundness.proofs.Fits.{SourcesSound, sources-sound-exact}
+use Rattle.soundness.proofs.Cores.{CoresSound, cores-sound-exact}
 
--- ---- the spare cores
+consistent-if : (b : Bool) (v : Surveyed) → v .consistent ≡ true → (cond b v inconsistentSurvey) .consistent ≡ b
+consistent-if true v e = e
+consistent-if false v e = refl
 
-pub spare-cores-exact : (l : List Core) (m : ℕ) → Exact (every maxCores (spareCore l m)) ((k : ℕ) → k < maxCores → m ≤ k → getD l k noCore ≡ resetCore)
-spare-cores-exact l m = every-exact maxCores (λ k. from-exact k m (reset-core-exact (getD l k noCore)))
+-- ---- the two passes
 
--- ---- after the loop over the cores
+module _ (s : Controller) where
+  cores-out : Consistent s → CoresSound s
+  cores-out c = (
+    λ k h.
+        record {
+          fits = record { configured = c .configured-core k h; empty = c .empty-box k h };
+          backed = c .backed k h;
+          apart = λ j g q. omega (arith, c .distinct j k (omega arith) h (q .left) (q .right) (q .source));
+        },
+    λ k h g. c .spare-core k g h,
+  )
 
-module _ {s : Controller} {top lowest covered k : ℕ} {seen : List Bool} (e : top ≡ topPriority (s .n)) (all : k ≡ s .m) (b : Boxes s seen covered k) (l : Lowest s lowest k) where
-  module _ (w : WellFormed s) where
-    small : topPriority (s .n) ≤ 65535
-    small = omega (arith, top-lt (s .n) (w .consistent .some-source) (omega (arith, w .consistent .n-le)), w .consistent .n-le)
+  sources-out : Consistent s → SourcesSound (s .sources) (s .n) (topPriority (s .n))
+  sources-out c = (
+    λ i h. record { configured = c .configured-source i h; request = c .request-range i h; idle = c .idle-source i h },
+    λ i h g. c .spare-source i g h,
+  )
 
-    pub covered-le : covered ≤ lowest
-    covered-le =
-        b .least lowest
-        (λ j h f.
-        l .greatest ((coreAt s j) .configured) (omega (arith, small, w .consistent .configured-core j (omega arith)))
-        (λ i g. w .quiet .covered-settled j i (omega arith) (omega arith) f))
+  module _ (r : InRange (s .n) (s .m)) (lengths : (length (s .sources) ≡ maxSources) × (length (s .cores) ≡ maxCores)) where
+    consistent-in : CoresSound s → SourcesSound (s .sources) (s .n) (topPriority (s .n)) → Consistent s
+    consistent-in (cores, spare-cores) (sources, spare-sources) =
+        record {
+          some-source = r .some-source;
+          n-le = r .n-le;
+          some-core = r .some-core;
+          m-le = r .m-le;
+          sources-length = lengths .0;
+          cores-length = lengths .1;
+          configured-source = λ i h. (sources i h) .configured;
+          request-range = λ i h. (sources i h) .request;
+          idle-source = λ i h. (sources i h) .idle;
+          configured-core = λ k h. (cores k h) .fits .configured;
+          empty-box = λ k h. (cores k h) .fits .empty;
+          spare-source = λ i h g. spare-sources i g h;
+          spare-core = λ k h g. spare-cores k g h;
+          backed = λ k h. (cores k h) .backed;
+          distinct = λ j k g h p q f.
+              sources-apart s .0 (λ k h. (cores k h) .apart) j k g h (record { left = p; right = q; source = f });
+        }
 
-    fits : (i : ℕ) → i < s .n → fitsAt (s .sources) top lowest i
-    fits i h =
-        rw e (
-          record { configured = w .consistent .configured-source i h; request = w .consistent .request-range i h; idle = w .consistent .idle-source i h },
-          λ f.
-              l .greatest ((sourceAt s i) .priority) (omega (arith, small, w .consistent .request-range i h (candidate-pending (sourceAt s i) f)))
-              (λ j g. w .quiet .candidates-settled i j h (omega arith) f),
-        )
+    pub consistent-passes : consistent s ≡ bothSound s
+    consistent-passes =
+        agree (consistent-exact s) (cores-sound-exact s and sources-sound-exact (s .sources) (s .n) (topPriority (s .n)))
+        (λ c. (cores-out c, sources-out c)) (λ p. consistent-in (p .0) (p .1))
 
-    pub sources-fit : AllFit (s .sources) (s .n) top lowest
-    sources-fit = (fits, λ i h g. w .consistent .spare-source i g h)
+  -- ---- the surveys
 
-  pub well-formed : InRange (s .n) (s .m) → (length (s .sources) ≡ maxSources) × (length (s .cores) ≡ maxCores) → covered ≤ lowest → ((j : ℕ) → j < maxCores → s .m ≤ j → coreAt s j ≡ resetCore) → AllFit (s .sources) (s .n) top lowest → WellFormed s
-  well-formed r (sources-length, cores-length) c spare-cores (fits, spare-sources) =
-      let sound : (j : ℕ) → j < s .m → CoreSound s j = λ j h. b .sound j (omega arith) in
-      let fit : (i : ℕ) → i < s .n → fitsAt (s .sources) (topPriority (s .n)) lowest i = λ i h. rw e at (fits i h) in
-      record {
-        consistent =
-            record {
-              some-source = r .some-source;
-              n-le = r .n-le;
-              some-core = r .some-core;
-              m-le = r .m-le;
-              sources-length = sources-length;
-              cores-length = cores-length;
-              configured-source = λ i h. (fit i h .0) .configured;
-              request-range = λ i h. (fit i h .0) .request;
-              idle-source = λ i h. (fit i h .0) .idle;
-              configured-core = λ j h. (sound j h) .fits .configured;
-              empty-box = λ j h. (sound j h) .fits .empty;
-              spare-source = λ i h g. spare-sources i g h;
-              spare-core = λ j h g. spare-cores j g h;
-              backed = λ j h. (sound j h) .backed;
-              distinct = λ i j g h p q f.
-                  sources-apart s .0 (λ j h. (sound j h) .apart) i j g h (record { left = p; right = q; source = f });
-            };
-        clean = λ j h. (sound j h) .clean;
-        quiet =
-            record {
-              candidates-settled = λ i j g h f. omega (arith, fit i g .1 f, l .le j (omega arith));
-              covered-settled = λ i j g h f. omega (arith, b .ge i (omega arith) f, l .le j (omega arith));
-            };
-      }
+  pub survey-refused : consistent s ≡ false → inconsistentSurvey ≡ surveyOf s
+  unfolding surveyOf
+  survey-refused e = rw e
+
+  pub cores-consistent : (coresSurvey s) .consistent ≡ coresSound s
+  unfolding coresSurvey
+  cores-consistent = consistent-if (coresSound s) _ refl
+
+  pub survey-consistent : (surveyOf s) .consistent ≡ consistent s
+  unfolding surveyOf
+  survey-consistent = consistent-if (consistent s) _ refl
+
+  pub survey-passes : consistent s ≡ bothSound s → coresSound s ≡ true →
+      sourcesSurvey (coresSurvey s) (s .sources) (s .n) (topPriority (s .n)) ≡ surveyOf s
+  unfolding surveyOf coresSurvey sourcesSurvey boxesClean
+  survey-passes e p = rw (e, p)
+
+-- ---- a well-formed state's
+
+leb-max : (a b p : ℕ) → leb (max a b) p ≡ leb a p && leb b p
+leb-max a b p =
+    agree (leb-exact (max a b) p) (leb-exact a p and leb-exact b p) (λ h. (omega arith, omega arith)) (λ (f, g). omega arith)
+
+-- no number is above a bound that the greatest isn't above
+every-le : (n : ℕ) (f : ℕ → ℕ) (p : ℕ) → every n (λ i. leb (f i) p) ≡ leb (greatest n f) p
+unfolding every greatest
+every-le zero f p = sym (le-leb 0 p (omega arith))
+every-le (suc k) f p = rw (every-le k f p, leb-max (greatest k f) (f k) p)
+
+if-any : (a : Bool) (x p : ℕ) → not a || leb x p ≡ leb (cond a x 0) p
+if-any true x p = refl
+if-any false x p = sym (le-leb 0 p (omega arith))
+
+abbrev settled : Surveyed → Bool
+settled v = leb (v .waiting) (v .lowest) && leb (v .covered) (v .lowest)
+
+abbrev verdict : Surveyed → Bool
+verdict v = v .consistent && v .clean && settled v
+
+-- the survey says that the state is well formed
+abbrev pub Passed : Surveyed → Type 0
+Passed v =
+    ((v .consistent ≡ true) × (v .clean ≡ true)) × ((v .waiting ≤ v .lowest) × (v .covered ≤ v .lowest))
+
+verdict-exact : (v : Surveyed) → Exact (verdict v) (Passed v)
+verdict-exact v =
+    flag-exact (v .consistent) and
+    flag-exact (v .clean) and (leb-exact (v .waiting) (v .lowest) and leb-exact (v .covered) (v .lowest))
+
+module _ (s : Controller) where
+  quiet-is : quiet s ≡ settled (shown s)
+  unfolding quiet candidatesSettled coveredSettled
+  quiet-is = simp (if-any, every-le)
+
+  well-formed-is : wellFormed s ≡ verdict (surveyOf s)
+  unfolding surveyOf wellFormed
+  well-formed-is = go (consistent s)
+    where
+      go : (b : Bool) → b && boxesClean s && quiet s ≡ verdict (cond b (shown s) inconsistentSurvey)
+      go true = ap (λ (q : Bool). boxesClean s && q) quiet-is
+      go false = refl
+
+  pub well-formed-exact : {v : Surveyed} → v ≡ surveyOf s → Exact (wellFormed s) (Passed v)
+  well-formed-exact {v} e = given (verdict-exact v) (well-formed-is ∙ sym (ap verdict e))

@@ -1,17 +1,34 @@
-// The sound-state test, on any record whatever.
-ghost use Prim.Native.Nat.{_≤_};
+// The sound-state test and its parts, on any record whatever: one pass over the cores, one over the sources.
+ghost use Prim.Native.Nat.{_≤_, min, max};
 ghost use mathlib.Core.Path.{_≡_};
-ghost use mathlib.Core.Bool.{_&&_};
+ghost use mathlib.Core.Bool.{true};
 ghost use Rattle.model.specs.Records.{maxSources};
+ghost use Rattle.model.specs.Priorities.{topPriority};
 ghost use Rattle.lists.specs.Numbers.{between};
-ghost use Rattle.model.specs.WellFormed.{sizesInRange, isEmptyBox, isResetSource, isResetCore, wellFormed};
-ghost use Rattle.soundness.specs.Loops.{isIdle, coreFits, sourcesFit, spareSourcesReset, cleanBacked};
+ghost use Rattle.model.specs.WellFormed.{sizesInRange, isEmptyBox, isResetSource, isResetCore, consistent, wellFormed};
+ghost use Rattle.model.specs.Statements.{InRange};
+ghost use Rattle.soundness.specs.Survey.{surveyWith, inconsistentSurvey, coveredPriority, surveyOf};
+ghost use Rattle.soundness.specs.Loops.{isIdle, coreFits, backs, withCore, coresSurvey, sourcesSurvey};
 use model::CORES;
 use model::Controller;
 use model::Core;
 use model::MessageBox;
 use model::SOURCES;
 use model::Source;
+
+// What one pass over a state says of it. Where the state isn't consistent, every other field is false or 0.
+pub struct Surveyed {
+    // sizes, ranges and blank values are right, and each filled box names its request; no source lies in two boxes
+    pub consistent: bool,
+    // no box is dirty
+    pub clean: bool,
+    // the least current priority
+    pub lowest: u16,
+    // the greatest configured priority under a filled box, 0 if no box is filled
+    pub covered: u16,
+    // the greatest priority of a candidate, 0 if there is none
+    pub waiting: u16,
+}
 
 // Sizes in range: 1 to 128 sources, 1 to 32 cores.
 // Rules out: 129 sources (`too_many_sources_accepted`); no core (`no_core_accepted`); 32 cores refused (`largest_size_refused`).
@@ -107,15 +124,12 @@ fn core_in_range(c: Core, n: u16, top: u16) -> bool
     }
 }
 
-// Whether a filled box is clean, and its source "pending and delivered, with the same priority, strictly above its core's configured
-// priority". That the id is in range is tested before.
-// Rules out: a dirty box (`dirty_accepted`); "strictly above" read as "at least" (`at_least_backs`).
+// Whether a filled box's source is "pending and delivered, with the same priority, strictly above its core's configured priority"; a dirty
+// box need not be above. That the id is in range is tested before.
+// Rules out: "strictly above" read as "at least" (`at_least_backs`).
 fn is_backed(c: Core, s: Source) -> bool
-    ensures { λ r. ⌜ r ≡ cleanBacked c s ⌝ }
+    ensures { λ r. ⌜ r ≡ backs c s ⌝ }
 {
-    if c.message.dirty {
-        return false;
-    }
     if !s.pending {
         return false;
     }
@@ -125,39 +139,146 @@ fn is_backed(c: Core, s: Source) -> bool
     if s.priority != c.message.priority {
         return false;
     }
+    if c.message.dirty {
+        return true;
+    }
     c.configured < c.message.priority
 }
 
-// Whether the first n sources have priorities "1 to top" and "no candidate above the least current priority", and the others are fresh.
+fn lesser(a: u16, b: u16) -> u16
+    ensures { λ r. ⌜ r ≡ min a b ⌝ }
+{
+    if b < a { b } else { a }
+}
+
+fn greater(a: u16, b: u16) -> u16
+    ensures { λ r. ⌜ r ≡ max a b ⌝ }
+{
+    if a < b { b } else { a }
+}
+
+// The configured priority under a filled box; 0 where the box is empty.
+fn covered_priority(c: Core) -> u16
+    ensures { λ r. ⌜ r ≡ coveredPriority c ⌝ }
+{
+    if c.message.filled { c.configured } else { 0 }
+}
+
+// ---- the survey's values. Every literal of one stands here.
+
+fn inconsistent() -> Surveyed
+    ensures { λ r. ⌜ r ≡ inconsistentSurvey ⌝ }
+{
+    Surveyed {
+        consistent: false,
+        clean: false,
+        lowest: 0,
+        covered: 0,
+        waiting: 0,
+    }
+}
+
+fn found(clean: bool, lowest: u16, covered: u16, waiting: u16) -> Surveyed
+    ensures { λ r. ⌜ r ≡ surveyWith true clean lowest covered waiting ⌝ }
+{
+    Surveyed {
+        consistent: true,
+        clean,
+        lowest,
+        covered,
+        waiting,
+    }
+}
+
+// ---- the passes
+
+// What is found so far, with one core more.
+// Rules out: the greatest current priority for the least (`greatest_for_least`); a dirty box passed over (`dirty_accepted`).
+fn with_core(v: Surveyed, c: Core) -> Surveyed
+    ensures { λ r. ⌜ r ≡ withCore v c ⌝ }
+{
+    let mut clean = v.clean;
+    if c.message.dirty {
+        clean = false;
+    }
+    let lowest = lesser(v.lowest, records::current_priority(c));
+    let covered = greater(v.covered, covered_priority(c));
+    found(clean, lowest, covered, v.waiting)
+}
+
+// The pass over the cores: those in use have priorities "0 to top" and boxes that are backed, each by a source of its own, and the others
+// are fresh. The loop over the spare records has no early answer, so that the compiler can test several at once.
+// Rules out: a source in two boxes (`source_in_two_boxes_accepted`); a spare core that isn't looked at (`spare_core_not_tested`).
+fn survey_cores(s: Controller, top: u16) -> Surveyed
+    requires { ⌜ InRange (s .n) (s .m) × (top ≡ topPriority (s .n)) ⌝ }
+    ensures { λ r. ⌜ r ≡ coresSurvey s ⌝ }
+{
+    let m = s.m as usize;
+    let mut seen = [false; SOURCES];
+    let mut v = found(true, records::current_priority(s.cores[0]), 0, 0);
+    let mut k = 0;
+    while k < m {
+        let c = s.cores[k];
+        if !core_in_range(c, s.n, top) {
+            return inconsistent();
+        }
+        if c.message.filled {
+            let at = c.message.source.0 as usize - 1;
+            if seen[at] {
+                return inconsistent();
+            }
+            seen[at] = true;
+            if !is_backed(c, s.sources[at]) {
+                return inconsistent();
+            }
+        }
+        v = with_core(v, c);
+        k += 1;
+    }
+    let mut fresh = true;
+    while k < CORES {
+        if !is_reset_core(s.cores[k]) {
+            fresh = false;
+        }
+        k += 1;
+    }
+    if !fresh {
+        return inconsistent();
+    }
+    v
+}
+
+// The pass over the sources, with what the cores have shown: the first n have priorities "1 to top", and the others are fresh.
 // Each field is read where it is tested, which is cheaper than a copy of the record. The loop over the spare records has no early answer,
 // so that the compiler can test several at once.
-// Rules out: priority 0 (`priority_zero_accepted`, `request_zero_accepted`); a candidate that should have been delivered
-// (`candidate_above_least_accepted`); a spare record that isn't looked at (`spare_source_not_tested`).
-fn sources_fit(sources: [Source; SOURCES], n: usize, top: u16, lowest: u16) -> bool
+// Rules out: priority 0 (`priority_zero_accepted`, `request_zero_accepted`); a spare record that isn't looked at
+// (`spare_source_not_tested`).
+fn survey_sources(v: Surveyed, sources: [Source; SOURCES], n: usize, top: u16) -> Surveyed
     requires { ⌜ n ≤ maxSources ⌝ }
-    ensures { λ r. ⌜ r ≡ sourcesFit sources n top lowest && spareSourcesReset sources n ⌝ }
+    ensures { λ r. ⌜ r ≡ sourcesSurvey v sources n top ⌝ }
 {
+    let mut waiting = 0u16;
     let mut i = 0;
     while i < n {
         if !in_range(sources[i].configured, top) {
-            return false;
+            return inconsistent();
         }
         let p = sources[i].priority;
         if sources[i].pending {
             if !in_range(p, top) {
-                return false;
+                return inconsistent();
             }
-            if lowest < p {
+            if waiting < p {
                 if records::is_candidate(sources[i]) {
-                    return false;
+                    waiting = p;
                 }
             }
         } else {
             if p != 0 {
-                return false;
+                return inconsistent();
             }
             if sources[i].delivered {
-                return false;
+                return inconsistent();
             }
         }
         i += 1;
@@ -169,63 +290,53 @@ fn sources_fit(sources: [Source; SOURCES], n: usize, top: u16, lowest: u16) -> b
         }
         i += 1;
     }
-    fresh
+    if !fresh {
+        return inconsistent();
+    }
+    found(v.clean, v.lowest, v.covered, waiting)
 }
 
-// Whether a state is sound: document 01, "A sound state". Sizes, ids and priorities may be anything that their fields can hold.
-// Rules out: a source in two boxes (`source_in_two_boxes_accepted`); a configured priority under a box above a current one
-// (`covered_not_settled`); the greatest current priority for the least (`greatest_for_least`); a spare core that isn't looked at
-// (`spare_core_not_tested`); and what the tests above rule out.
-pub fn well_formed(s: Controller) -> bool
-    ensures { λ r. ⌜ r ≡ wellFormed s ⌝ }
+// One pass over a state. Sizes, ids and priorities may be anything that their fields can hold.
+// Rules out: what `survey_cores` and `survey_sources` rule out.
+pub fn survey(s: Controller) -> Surveyed
+    ensures { λ r. ⌜ r ≡ surveyOf s ⌝ }
 {
     let n = s.n;
     if !sizes_in_range(n, s.m) {
-        return false;
+        return inconsistent();
     }
-    let m = s.m as usize;
     let top = records::top_priority(n) as u16;
-    let mut seen = [false; SOURCES];
-    let mut lowest = 65535u16;
-    let mut covered = 0u16;
-    let mut k = 0;
-    while k < m {
-        let c = s.cores[k];
-        if !core_in_range(c, n, top) {
-            return false;
-        }
-        if c.message.filled {
-            let at = c.message.source.0 as usize - 1;
-            if seen[at] {
-                return false;
-            }
-            seen[at] = true;
-            if !is_backed(c, s.sources[at]) {
-                return false;
-            }
-            if covered < c.configured {
-                covered = c.configured;
-            }
-        }
-        let p = records::current_priority(c);
-        if p < lowest {
-            lowest = p;
-        }
-        k += 1;
-    }
-    if lowest < covered {
-        return false;
-    }
-    let mut fresh = true;
-    while k < CORES {
-        if !is_reset_core(s.cores[k]) {
-            fresh = false;
-        }
-        k += 1;
-    }
-    if !fresh {
-        return false;
+    let v = survey_cores(s, top);
+    if !v.consistent {
+        return inconsistent();
     }
     let sources = s.sources;
-    sources_fit(sources, n as usize, top, lowest)
+    survey_sources(v, sources, n as usize, top)
+}
+
+// Whether a state's structure is right: document 01, "A sound state", without its clauses on dirty boxes and on what is delivered.
+pub fn is_consistent(s: Controller) -> bool
+    ensures { λ r. ⌜ r ≡ consistent s ⌝ }
+{
+    let v = survey(s);
+    v.consistent
+}
+
+// Whether a state is sound: document 01, "A sound state".
+// Rules out: a configured priority under a box above a current one (`covered_not_settled`); a candidate that should have been delivered
+// (`candidate_above_least_accepted`); and what the survey rules out.
+pub fn well_formed(s: Controller) -> bool
+    ensures { λ r. ⌜ r ≡ wellFormed s ⌝ }
+{
+    let v = survey(s);
+    if !v.consistent {
+        return false;
+    }
+    if !v.clean {
+        return false;
+    }
+    if v.lowest < v.waiting {
+        return false;
+    }
+    v.covered <= v.lowest
 }
