@@ -30,8 +30,7 @@ returns-4 c =
     let two = c .before .before .before in
     let one = two .before .before in
     let survey = one .before .before in
-    let v = survey .survey .result in
-    agree (leb-exact (v .covered) (v .lowest)) (asked survey)
+    agree (leb-exact _ _) (asked survey)
     (λ h. ((not-false _ (one .if1 .left), not-false _ (two .if2 .left)), (c .before .if3 .left, h))) (λ p. p .1 .1)
 
 pub well-formed-spec : {M : Type 1} → statement M
