@@ -8,7 +8,7 @@ use lib.ListN.{length}
 use lib.Seq.{getD-set-same}
 use borrow.Author.Tests.{lt-ltb}
 use Rattle.borrowed.proofs.Claims.{top-is, clean-only, taken-empty, taken-good}
-use Rattle.model.proofs.Priorities.{top-rises, top-lt}
+use Rattle.model.proofs.Priorities.{top-rises}
 use Rattle.model.specs.Records.{maxSources, noCore, coreAt, withCore, taken}
 use Rattle.model.specs.declared.CoreId.{CoreId}
 use Rattle.model.specs.declared.Core.{Core}
