@@ -1,6 +1,6 @@
 -- Never more than 65,535 commands: a reader counts each that it gives, and gives none past that (`AtMost65535`). Assumes nothing.
 use Prim.Native.Nat.{ℕ, suc, _+_, _≤_, min}
-use mathlib.Core.Path.{_≡_, refl}
+use mathlib.Core.Path.{_≡_, refl, sym, _∙_}
 use mathlib.Core.Option.{Option, none, some}
 use mathlib.Core.List.{List, [], _∷_, tail}
 use mathlib.Core.Bool.{Bool, true, false, not, cond}
@@ -8,7 +8,8 @@ use native.Mathlib.Omega.{arith}
 use lib.ListN.{length, getD, length-append}
 use lib.Dec.{leb}
 use borrow.Author.Tests.{leb-false}
-use Rattle.model.specs.Encoding.{commandOf}
+use Rattle.readings.proofs.Commanded.{readWord-fit, named-one, start-fit, Fit}
+use Rattle.recording.specs.Statements.{CommandsTaken, upTo, AtMost65535}
 use Rattle.recording.specs.declared.Place.{Place}
 use Rattle.recording.specs.declared.Place.the-variants.{Definition, SkipDefinition, Wire, Width, Code, Name, VarEnd, DefinitionsEnd, Body, SkipBody, BodyCode, Block, BlockCode}
 use Rattle.recording.specs.declared.Signal.{Signal}
@@ -19,11 +20,8 @@ use Rattle.recording.specs.Words.{isText, Word, words}
 use Rattle.recording.specs.Values.{isDecimal, decimal, isCode, codeOf, bitOf, valueOf, vectorOf}
 use Rattle.recording.specs.Records.{start, variable, at, withWidth, withCode, withVector, withValue, declaring, withTime, withUp, withTaken, refused, readWith, only}
 use Rattle.recording.specs.Declarations.{signalOf, allDeclared, declares}
-use Rattle.model.specs.declared.Decoded.{Decoded}
-use Rattle.model.specs.declared.Decoded.the-variants.{Unknown, Known}
-use Rattle.recording.specs.Stamps.{named, maxCommands, level, isHigh, rises, isReadable, strobeOf, commandsOf, endStamp, endOpenStamp}
+use Rattle.recording.specs.Stamps.{maxCommands, level, isHigh, rises, isReadable, strobeOf, commandsOf, endStamp, endOpenStamp}
 use Rattle.recording.specs.Reading.{isBody, isGood, outOfPlace, isSkipped, readDefinition, readWidth, readCode, readName, isVector, isScalar, readChange, vectorSignal, readVectorCode, startsTime, isTime, timeOf, isLater, openStamp, andThen, readTime, isDump, readBody, readBlock, readAt, readWord, ending, finish, Progress, progress, advance, readWords, finished, answered, reading}
-use Rattle.recording.specs.Statements.{upTo, AtMost65535}
 
 -- ---- words that give no command leave the count alone
 
@@ -72,31 +70,29 @@ module _ (r : Reader) (w : Word) where
       go false true = refl
       go false false = refl
 
--- at most one command for a strobe
-one-named : (d : Decoded) → length (named d) ≤ 1
-one-named Unknown = omega arith
-one-named (Known c) = omega arith
-
 -- ---- a word counts the command that it gives
 
 pub record Counts (r : Reader) (a : Read) : Type 0 where
-  pub given : r .taken + length (commandsOf (a .strobe)) ≤ a .reader .taken
+  pub given : r .taken + length (commandsOf (a .strobe)) ≡ a .reader .taken
   pub bounded : r .taken ≤ 65535 → a .reader .taken ≤ 65535
 
 only-counts : (r x : Reader) → x .taken ≡ r .taken → Counts r (only x)
 unfolding commandsOf
 only-counts r x e = record { given = omega arith; bounded = λ h. omega arith }
 
-strobe-counts : (r : Reader) → leb maxCommands (r .taken) ≡ false →
+strobe-counts : (r : Reader) → Fit r → leb maxCommands (r .taken) ≡ false →
     Counts r (readWith (withTaken (suc (r .taken)) (withUp true r)) (strobeOf r))
 unfolding commandsOf strobeOf
-strobe-counts r e =
+strobe-counts r h e =
     let s = strobeOf r in
-    record { given = omega (arith, one-named (commandOf (s .number) (s .target) (s .level))); bounded = λ h. omega (arith, leb-false maxCommands (r .taken) e) }
+    record {
+      given = omega (arith, named-one (s .number) (s .target) (s .level) (h .below));
+      bounded = λ b. omega (arith, leb-false maxCommands (r .taken) e);
+    }
 
-endStamp-counts : (n : ℕ) (r : Reader) → Counts r (endStamp n r)
+endStamp-counts : (n : ℕ) (r : Reader) → Fit r → Counts r (endStamp n r)
 unfolding endStamp
-endStamp-counts n r = go ((level r) .known) (rises r) (isReadable r) (leb maxCommands (r .taken)) refl
+endStamp-counts n r h = go ((level r) .known) (rises r) (isReadable r) (leb maxCommands (r .taken)) refl
   where
     taken : Read
     taken = readWith (withTaken (suc (r .taken)) (withUp true r)) (strobeOf r)
@@ -109,14 +105,14 @@ endStamp-counts n r = go ((level r) .known) (rises r) (isReadable r) (leb maxCom
     go true false d x e = only-counts r (withUp (isHigh r) r) refl
     go true true false x e = only-counts r (refused 13 n r) refl
     go true true true true e = only-counts r (refused 19 n r) refl
-    go true true true false e = strobe-counts r e
+    go true true true false e = strobe-counts r h e
 
-endOpenStamp-counts : (n : ℕ) (r : Reader) → Counts r (endOpenStamp n r)
+endOpenStamp-counts : (n : ℕ) (r : Reader) → Fit r → Counts r (endOpenStamp n r)
 unfolding endOpenStamp
-endOpenStamp-counts n r = go (r .stamp .opened)
+endOpenStamp-counts n r h = go (r .stamp .opened)
   where
     go : (b : Bool) → Counts r (cond b (endStamp n r) (only r))
-    go true = endStamp-counts n r
+    go true = endStamp-counts n r h
     go false = only-counts r r refl
 
 then-counts : (r : Reader) (a : Read) (f : Reader → Reader) → (f (a .reader)) .taken ≡ a .reader .taken → Counts r a →
@@ -125,16 +121,16 @@ unfolding andThen
 then-counts r a f e c = go (isGood (a .reader))
   where
     go : (b : Bool) → Counts r (cond b (readWith (f (a .reader)) (a .strobe)) a)
-    go true = record { given = omega (arith, c .given, e); bounded = λ h. rw e (c .bounded h) }
+    go true = record { given = c .given ∙ sym e; bounded = λ h. rw e (c .bounded h) }
     go false = c
 
-module _ (r : Reader) (w : Word) where
+module _ (r : Reader) (w : Word) (h : Fit r) where
   body-counts : (t c d : Bool) →
       Counts r (cond t (readTime r w) (cond c (only (at SkipBody r)) (cond d (only (at Block r)) (only (readChange Body BodyCode r w)))))
   unfolding readTime
   body-counts true c d =
       then-counts r (endOpenStamp (w .at) r) (λ r′. openStamp r′ w) (time-keeps ((endOpenStamp (w .at) r) .reader) w)
-      (endOpenStamp-counts (w .at) r)
+      (endOpenStamp-counts (w .at) r h)
   body-counts false true d = only-counts r (at SkipBody r) refl
   body-counts false false true = only-counts r (at Block r) refl
   body-counts false false false = only-counts r (readChange Body BodyCode r w) (change-keeps r w Body BodyCode)
@@ -170,9 +166,9 @@ module _ (r : Reader) (w : Word) where
       go true = readAt-counts (r .place)
       go false = only-counts r r refl
 
-finish-counts : (n : ℕ) (r : Reader) → Counts r (finish n r)
+finish-counts : (n : ℕ) (r : Reader) → Fit r → Counts r (finish n r)
 unfolding finish
-finish-counts n r = go (isGood r)
+finish-counts n r h = go (isGood r)
   where
     a : Read
     a = endOpenStamp n r
@@ -180,14 +176,14 @@ finish-counts n r = go (isGood r)
     go : (b : Bool) → Counts r (cond b (andThen a (ending n)) (only r))
     go true =
         then-counts r a (ending n) (keeps (isBody (a .reader .place)) (a .reader) (refused 11 n (a .reader)) (a .reader .taken) refl refl)
-        (endOpenStamp-counts n r)
+        (endOpenStamp-counts n r h)
     go false = only-counts r r refl
 
 -- ---- the whole reading
 
--- no more commands than the reader counts, and not too many
+-- as many commands as the reader counts, and not too many
 pub record Counted (p : Progress) : Type 0 where
-  pub given : length (p .commands) ≤ p .reader .taken
+  pub given : length (p .commands) ≡ p .reader .taken
   pub bounded : p .reader .taken ≤ 65535
 
 advance-counted : (p : Progress) (a : Read) → Counted p → Counts (p .reader) a → Counted (advance (p .commands) a)
@@ -198,17 +194,24 @@ advance-counted p a c s =
       bounded = s .bounded (c .bounded);
     }
 
-words-counted : (p : Progress) (ws : List Word) → Counted p → Counted (readWords p ws)
-unfolding readWords
-words-counted p [] c = c
-words-counted p (w ∷ ws) c =
-    words-counted (advance (p .commands) (readWord (p .reader) w)) ws
-    (advance-counted p (readWord (p .reader) w) c (readWord-counts (p .reader) w))
+words-counted : (p : Progress) (ws : List Word) → Fit (p .reader) → Counted p → Fit ((readWords p ws) .reader) × Counted (readWords p ws)
+unfolding readWords advance
+words-counted p [] h c = (h, c)
+words-counted p (w ∷ ws) h c =
+    words-counted (advance (p .commands) (readWord (p .reader) w)) ws (readWord-fit (p .reader) w h)
+    (advance-counted p (readWord (p .reader) w) c (readWord-counts (p .reader) w h))
+
+-- the reading to its end
+counted : (t : List ℕ) → Counted (finished (length t) (upTo t))
+unfolding finished
+counted t =
+    let (h, c) = words-counted (progress start []) (words t) start-fit (record { given = refl; bounded = omega arith }) in
+    advance-counted (upTo t) (finish (length t) ((upTo t) .reader)) c (finish-counts (length t) ((upTo t) .reader) h)
 
 pub at-most-65535 : AtMost65535
-unfolding reading answered finished
-at-most-65535 t =
-    let c : Counted (upTo t) = words-counted (progress start []) (words t) (record { given = omega arith; bounded = omega arith }) in
-    let f : Counted (finished (length t) (upTo t)) =
-    advance-counted (upTo t) (finish (length t) ((upTo t) .reader)) c (finish-counts (length t) ((upTo t) .reader)) in
-    omega (arith, f .given, f .bounded)
+unfolding reading answered
+at-most-65535 t = omega (arith, (counted t) .given, (counted t) .bounded)
+
+pub commands-taken : CommandsTaken
+unfolding reading answered
+commands-taken t = (counted t) .given

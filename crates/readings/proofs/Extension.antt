@@ -81,7 +81,7 @@ doubled : (v d p : ℕ) → d ≤ 1 → suc (2 * v + d) * p ≤ suc v * (2 * p)
 doubled v d p h =
     le-trans (mul-le-mul-right {m = suc (2 * v + d)} {n = suc v * 2} p (omega arith)) (omega (arith, mul-assoc (suc v) 2 p))
 
-numeral-below : (v : ℕ) (bs : List Bit) → numeral 2 v (map bitNumber bs) < suc v * 2 ^ length bs
+pub numeral-below : (v : ℕ) (bs : List Bit) → numeral 2 v (map bitNumber bs) < suc v * 2 ^ length bs
 numeral-below v [] = omega arith
 numeral-below v (b ∷ bs) =
     le-trans (numeral-below (2 * v + bitNumber b) bs)

@@ -5,7 +5,8 @@
 --   Extension       the value of an extended vector
 --   Faults          which fault and which command a word shows
 --   Final           what follows a fault changes nothing; where a fault is shown
---   Counted         at most 65,535 commands
+--   Commanded       cmd holds a number from 0 to 7
+--   Counted         at most 65,535 commands, and one for each strobe
 --   Agreement       a reader's variables and the declarations of the grammar
 --   Steps           words that show no fault of the grammar
 --   Derived         a text read without a fault is derived
@@ -18,6 +19,7 @@ pub mod Words
 pub mod Extension
 pub mod Faults
 pub mod Final
+pub mod Commanded
 pub mod Counted
 pub mod Agreement
 pub mod Steps

@@ -7,6 +7,7 @@ use mathlib.Core.Logic.{_↔_, _≢_}
 use mathlib.Core.List.{List, [], _∷_, _++_, map, List·Memᴰ}
 use mathlib.Core.Bool.{true, false}
 use lib.ListN.{length, getD}
+use Rattle.recording.specs.Reading.{finished, isGood, readWord, finish, Progress, progress, readWords, readingWith, reading}
 use Rattle.model.specs.Records.{reset}
 use Rattle.model.specs.Ledger.{opening, ledger, entries}
 use Rattle.model.specs.Statements.{InRange, PriorityStrict}
@@ -14,7 +15,6 @@ use Rattle.recording.specs.declared.Reader.{Reader}
 use Rattle.recording.specs.Words.{separator, Word, words}
 use Rattle.recording.specs.Values.{Bit, bx, bz, bitNumber, numeral, extended, valueOf}
 use Rattle.recording.specs.Records.{start}
-use Rattle.recording.specs.Reading.{isGood, readWord, finish, Progress, progress, readWords, readingWith, reading}
 use Rattle.recording.specs.Faults.{endsStamp, faultAt, faultAtEnd, takenAt}
 use Rattle.recording.specs.Replay.{replayWith, replayFrom, replayed}
 use Rattle.recording.specs.Grammar.{Definitions}
@@ -93,6 +93,10 @@ FaultsShown =
 
 abbrev pub AtMost65535 : Type 0
 AtMost65535 = (t : List ℕ) → length ((reading t) .commands) ≤ 65535
+
+-- Every strobe that is taken gives a command: cmd has three bits, and each of its eight numbers names one.
+abbrev pub CommandsTaken : Type 0
+CommandsTaken = (t : List ℕ) → length ((reading t) .commands) ≡ (finished (length t) (upTo t)) .reader .taken
 
 -- ---- the grammar
 

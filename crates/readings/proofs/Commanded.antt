@@ -1,0 +1,218 @@
+-- In every reading cmd holds a number from 0 to 7: it has three bits, and no longer vector is taken. Assumes nothing.
+--   Fits c v         what a variable cmd and a vector under way keep to
+--   Fit r            they are those of a reader
+--   readWord-fit     a word keeps it
+--   named-one        so that the number of a strobe names a command
+use Prim.Native.Nat.{ℕ, zero, suc, _*_, _^_, _<_, _≤_, min}
+use mathlib.Core.Path.{_≡_, refl}
+use mathlib.Core.Option.{Option, none, some}
+use mathlib.Core.List.{List, map, tail}
+use mathlib.Core.Bool.{Bool, true, false, not, _&&_, _||_, cond}
+use native.Mathlib.Omega.{arith}
+use native.Mathlib.Nat.{pow-le-pow-right, le-trans}
+use native.Mathlib.Decide.{decLe}
+use lib.ListN.{length, length-map}
+use lib.Dec.{leb, eqb}
+use borrow.Author.Tests.{leb-true, eqb-true}
+use Rattle.lists.proofs.Bools.{and-l, and-r}
+use Rattle.model.specs.Encoding.{commandOf}
+use Rattle.recording.specs.declared.Place.{Place}
+use Rattle.recording.specs.declared.Place.the-variants.{Definition, SkipDefinition, Wire, Width, Code, Name, VarEnd, DefinitionsEnd, Body, SkipBody, BodyCode, Block, BlockCode}
+use Rattle.recording.specs.declared.Signal.{Signal}
+use Rattle.recording.specs.declared.Signal.the-variants.{Stb, Cmd, Core, Arg, Prio}
+use Rattle.recording.specs.declared.Variable.{Variable}
+use Rattle.recording.specs.declared.Vector.{Vector}
+use Rattle.recording.specs.declared.Reader.{Reader}
+use Rattle.recording.specs.declared.Read.{Read}
+use Rattle.recording.specs.Words.{isText, Word, all}
+use Rattle.recording.specs.Values.{Bit, isDefinite, isDecimal, isCode, bitOf, bitNumber, numeral, value, unknown, valueOf, vectorOf}
+use Rattle.recording.specs.Records.{start, variable, at, withUp, withTaken, withValue, declaring, refused, only, readWith}
+use Rattle.recording.specs.Declarations.{narrow, fits, declared, signalOf, allDeclared, declares}
+use Rattle.recording.specs.Stamps.{maxCommands, level, rises, isHigh, isReadable, strobeOf, named, endStamp, endOpenStamp}
+use Rattle.recording.specs.Reading.{isGood, outOfPlace, isSkipped, readDefinition, readWidth, readCode, readName, isVector, isScalar, readChange, vectorSignal, readVectorCode, startsTime, isTime, timeOf, isLater, openStamp, andThen, readTime, isDump, readBody, readBlock, readAt, readWord}
+use Rattle.readings.proofs.Extension.{numeral-below}
+
+pub record Fits (c : Variable) (v : Vector) : Type 0 where
+  pub below : c .value .number < 8
+  pub narrow-width : c .width ≤ 3
+  pub in-vector : v .value .number < 2 ^ v .length
+
+abbrev pub Fit : Reader → Type 0
+Fit r = Fits (r .variables .cmd) (r .pending .vector)
+
+pub start-fit : Fit start
+start-fit = record { below = omega arith; narrow-width = omega arith; in-vector = omega arith }
+
+either : (b : Bool) (x y : Reader) → Fit x → Fit y → Fit (cond b x y)
+either true x y p q = p
+either false x y p q = q
+
+or-left : (a : Bool) → a || false ≡ true → a ≡ true
+or-left true e = refl
+or-left false e = e
+
+-- ---- a vector's number has no more binary digits than it has bits
+
+held-small : (n : ℕ) → min 65535 n < 2 ^ 16
+held-small n = omega arith
+
+held-below : (n k : ℕ) → n < 1 * 2 ^ k → min 65535 n < 2 ^ min 255 k
+held-below n k h = go (decLe k 255)
+  where
+    go : Dec (k ≤ 255) → min 65535 n < 2 ^ min 255 k
+    go (yes p) = let e : min 255 k ≡ k = omega arith in rw e (omega arith)
+    go (no p) =
+        let e : min 255 k ≡ 255 = omega arith in
+        rw e (le-trans (held-small n) (pow-le-pow-right {n = 2} (omega arith) {i = 16} {j = 255} (omega arith)))
+
+positive : (bs : List Bit) → 0 < 1 * 2 ^ length bs
+positive bs = omega (arith, numeral-below 0 bs)
+
+vector-fits : (w : List ℕ) → (vectorOf w) .value .number < 2 ^ (vectorOf w) .length
+unfolding vectorOf valueOf
+vector-fits w = go (all isDefinite (map bitOf w))
+  where
+    go : (b : Bool) → (cond b (value true (min 65535 (numeral 2 0 (map bitNumber (map bitOf w))))) unknown) .number < 2 ^ min 255 (length w)
+    go true = held-below (numeral 2 0 (map bitNumber (map bitOf w))) (length w) (rw (length-map w bitOf) at (numeral-below 0 (map bitOf w)))
+    go false = held-below 0 (length w) (rw (length-map w bitOf) at (positive (map bitOf w)))
+
+-- ---- a word
+
+module _ (r : Reader) (w : Word) (h : Fit r) where
+  -- a declaration of cmd has three bits
+  declares-three : declares r Cmd ≡ true → r .pending .width ≡ 3
+  unfolding declares
+  declares-three e =
+      let all-but = and-l (not (declared r Cmd) && (fits r Cmd (r .pending .width) narrow || false)) _ e in
+      let fit = and-r (not (declared r Cmd)) (fits r Cmd (r .pending .width) narrow || false) all-but in
+      eqb-true (r .pending .width) 3 (and-l (eqb (r .pending .width) 3) _ (or-left (fits r Cmd (r .pending .width) narrow) fit))
+
+  declaring-fit : (s : Signal) → declares r s ≡ true → Fit (declaring s r)
+  declaring-fit Stb e = h
+  declaring-fit Cmd e = record { below = h .below; narrow-width = omega (arith, declares-three e); in-vector = h .in-vector }
+  declaring-fit Core e = h
+  declaring-fit Arg e = h
+  declaring-fit Prio e = h
+
+  name-fit : (o : Option Signal) → Fit (readName o r w)
+  unfolding readName
+  name-fit none = h
+  name-fit (some s) = go (declares r s) refl
+    where
+      go : (b : Bool) → declares r s ≡ b → Fit (cond b (at VarEnd (declaring s r)) (refused 12 (w .at) r))
+      go true e = declaring-fit s e
+      go false e = h
+
+  change-fit : (p q : Place) → Fit (readChange p q r w)
+  unfolding readChange
+  change-fit p q =
+      either (isVector (w .bytes)) _ _
+      (record { below = h .below; narrow-width = h .narrow-width; in-vector = vector-fits (tail (w .bytes)) })
+      (either (isScalar r (w .bytes)) _ _ h h)
+
+  -- what fits a vector of at most three bits
+  given-fit : (s : Signal) → r .pending .vector .length ≤ (variable r s) .width → Fit (withValue s (r .pending .vector .value) r)
+  given-fit Stb l = h
+  given-fit Cmd l =
+      let top : 2 ^ r .pending .vector .length ≤ 2 ^ 3
+      = pow-le-pow-right {n = 2} (omega arith) {i = r .pending .vector .length} {j = 3} (omega (arith, h .narrow-width)) in
+      record { below = omega (arith, h .in-vector); narrow-width = h .narrow-width; in-vector = h .in-vector }
+  given-fit Core l = h
+  given-fit Arg l = h
+  given-fit Prio l = h
+
+  code-fit : (p : Place) (o : Option Signal) → Fit (readVectorCode p o r w)
+  unfolding readVectorCode
+  code-fit p none = h
+  code-fit p (some s) = go (leb (r .pending .vector .length) ((variable r s) .width)) refl
+    where
+      go : (b : Bool) → leb (r .pending .vector .length) ((variable r s) .width) ≡ b → Fit (cond b (at p (withValue s (r .pending .vector .value) r)) (outOfPlace w r))
+      go true e = given-fit s (leb-true _ _ e)
+      go false e = h
+
+  time-fit : Fit (openStamp r w)
+  unfolding openStamp
+  time-fit = either (not (isTime (w .bytes))) _ _ h (either (isLater r (timeOf (w .bytes))) _ _ h h)
+
+stamp-fit : (n : ℕ) (r : Reader) → Fit r → Fit ((endStamp n r) .reader)
+unfolding endStamp
+stamp-fit n r h = go ((level r) .known) (rises r) (isReadable r) (leb maxCommands (r .taken))
+  where
+    go : (k v d x : Bool) →
+        Fit
+        ((cond (not k) (only (refused 13 n r)) (cond (not v) (only (withUp (isHigh r) r))
+        (cond (not d) (only (refused 13 n r)) (cond x (only (refused 19 n r)) (readWith (withTaken (suc (r .taken)) (withUp true r)) (strobeOf r)))))) .reader)
+    go false v d x = h
+    go true false d x = h
+    go true true false x = h
+    go true true true true = h
+    go true true true false = h
+
+open-stamp-fit : (n : ℕ) (r : Reader) → Fit r → Fit ((endOpenStamp n r) .reader)
+unfolding endOpenStamp
+open-stamp-fit n r h = go (r .stamp .opened)
+  where
+    go : (b : Bool) → Fit ((cond b (endStamp n r) (only r)) .reader)
+    go true = stamp-fit n r h
+    go false = h
+
+then-fit : (a : Read) (f : Reader → Reader) → Fit (a .reader) → Fit (f (a .reader)) → Fit ((andThen a f) .reader)
+unfolding andThen
+then-fit a f h g = go (isGood (a .reader))
+  where
+    go : (b : Bool) → Fit ((cond b (readWith (f (a .reader)) (a .strobe)) a) .reader)
+    go true = g
+    go false = h
+
+module _ (r : Reader) (w : Word) (h : Fit r) where
+  body-fit : (t c d : Bool) →
+      Fit
+      ((cond t (readTime r w) (cond c (only (at SkipBody r)) (cond d (only (at Block r)) (only (readChange Body BodyCode r w))))) .reader)
+  unfolding readTime
+  body-fit true c d =
+      let ended = open-stamp-fit (w .at) r h in
+      then-fit (endOpenStamp (w .at) r) (λ r′. openStamp r′ w) ended (time-fit ((endOpenStamp (w .at) r) .reader) w ended)
+  body-fit false true d = h
+  body-fit false false true = h
+  body-fit false false false = change-fit r w h Body BodyCode
+
+  readAt-fit : (p : Place) → Fit ((readAt p r w) .reader)
+  unfolding readAt readDefinition readWidth readCode readBody readBlock
+  readAt-fit Definition =
+      either (isSkipped (w .bytes)) _ _ h
+      (either (isText "$var" (w .bytes)) _ _ h
+      (either (not (isText "$enddefinitions" (w .bytes))) _ _ h (either (allDeclared r) _ _ h h)))
+  readAt-fit SkipDefinition = either (isText "$end" (w .bytes)) _ _ h h
+  readAt-fit Wire = either (isText "wire" (w .bytes)) _ _ h h
+  readAt-fit Width = either (isDecimal (w .bytes)) _ _ h h
+  readAt-fit Code = either (isCode (w .bytes)) _ _ h h
+  readAt-fit Name = name-fit r w h (signalOf (w .bytes))
+  readAt-fit VarEnd = either (isText "$end" (w .bytes)) _ _ h h
+  readAt-fit DefinitionsEnd = either (isText "$end" (w .bytes)) _ _ h h
+  readAt-fit Body = body-fit (startsTime (w .bytes)) (isText "$comment" (w .bytes)) (isDump (w .bytes))
+  readAt-fit SkipBody = either (isText "$end" (w .bytes)) _ _ h h
+  readAt-fit BodyCode = code-fit r w h Body (vectorSignal r (w .bytes))
+  readAt-fit Block = either (isText "$end" (w .bytes)) _ _ h (change-fit r w h Block BlockCode)
+  readAt-fit BlockCode = code-fit r w h Block (vectorSignal r (w .bytes))
+
+  pub readWord-fit : Fit ((readWord r w) .reader)
+  unfolding readWord
+  readWord-fit = go (isGood r)
+    where
+      go : (b : Bool) → Fit ((cond b (readAt (r .place) r w) (only r)) .reader)
+      go true = readAt-fit (r .place)
+      go false = h
+
+-- ---- eight numbers name a command
+
+pub named-one : (number target p : ℕ) → number < 8 → length (named (commandOf number target p)) ≡ 1
+unfolding commandOf
+named-one zero target p h = refl
+named-one (suc zero) target p h = refl
+named-one (suc (suc zero)) target p h = refl
+named-one (suc (suc (suc zero))) target p h = refl
+named-one (suc (suc (suc (suc zero)))) target p h = refl
+named-one (suc (suc (suc (suc (suc zero))))) target p h = refl
+named-one (suc (suc (suc (suc (suc (suc zero)))))) target p h = refl
+named-one (suc (suc (suc (suc (suc (suc (suc zero))))))) target p h = refl
+named-one (suc (suc (suc (suc (suc (suc (suc (suc k)))))))) target p h = absurd (omega arith)
