@@ -7,16 +7,16 @@ use mathlib.Core.Path.{_≡_, refl, ap₂, _∙_}
 use mathlib.Core.List.{List}
 use mathlib.Core.Bool.{Bool, true, false, cond}
 use native.Mathlib.Omega.{arith}
-use lib.ListN.{getD}
 use lib.Dec.{ltb}
 use borrow.Author.Tests.{ltb-true}
 use Rattle.model.specs.declared.Source.{Source}
 use Rattle.model.specs.declared.Core.{Core}
-use Rattle.model.specs.Records.{noSource, noCore}
-use Rattle.lists.specs.Walks.{winner, walk, leftHalf, tree}
+use Rattle.lists.specs.Rows.{FilledTo}
+use Rattle.model.specs.Records.{noCore}
 use Rattle.model.specs.Requests.{currentPriority}
-use Rattle.model.specs.Arbitration.{rank, higher, highest, lower, least}
-use Rattle.arbitration.specs.Keys.{keyAbove, keyBelow, HighestKey}
+use Rattle.lists.specs.Walks.{winner, walk, leftHalf, tree}
+use Rattle.model.specs.Arbitration.{higher, highest, lower, least}
+use Rattle.arbitration.specs.Keys.{keyAbove, keyBelow, HighestKey, RanksOf}
 
 -- ---- orders that agree inside the range
 
@@ -25,7 +25,8 @@ picked P true x y p q = q
 picked P false x y p q = p
 
 -- two contenders answered alike, and compared alike
-winner-cong : (above above′ : ℕ → ℕ → Bool) (x x′ y y′ : ℕ) → x ≡ x′ → y ≡ y′ → above y x ≡ above′ y x → winner above x y ≡ winner above′ x′ y′
+winner-cong :
+    (above above′ : ℕ → ℕ → Bool) (x x′ y y′ : ℕ) → x ≡ x′ → y ≡ y′ → above y x ≡ above′ y x → winner above x y ≡ winner above′ x′ y′
 winner-cong above above′ x x′ y y′ p q e = rw (e, p, q)
 
 abbrev Inside : ℕ → ℕ → ℕ → Type 0
@@ -42,7 +43,9 @@ tree-inside above (suc d) lo len h = go (ltb 1 len) refl (tree-inside above d)
     y : ℕ
     y = tree above d (lo + leftHalf len) (len / 2)
 
-    go : (t : Bool) → ltb 1 len ≡ t → ((lo′ len′ : ℕ) → 1 ≤ len′ → Inside lo′ len′ (tree above d lo′ len′)) → Inside lo len (cond t (winner above x y) lo)
+    go :
+        (t : Bool) → ltb 1 len ≡ t → ((lo′ len′ : ℕ) → 1 ≤ len′ → Inside lo′ len′ (tree above d lo′ len′)) →
+        Inside lo len (cond t (winner above x y) lo)
     go true p rest =
         let q : 1 < len = ltb-true 1 len p in
         let u : Inside lo (leftHalf len) x = rest lo (leftHalf len) (omega arith) in
@@ -50,7 +53,9 @@ tree-inside above (suc d) lo len h = go (ltb 1 len) refl (tree-inside above d)
         picked (Inside lo len) (above y x) x y (omega arith) (omega arith)
     go false p rest = omega arith
 
-tree-cong : (above above′ : ℕ → ℕ → Bool) (d lo len : ℕ) → ((i j : ℕ) → Inside lo len i → Inside lo len j → above i j ≡ above′ i j) → tree above d lo len ≡ tree above′ d lo len
+tree-cong :
+    (above above′ : ℕ → ℕ → Bool) (d lo len : ℕ) → ((i j : ℕ) → Inside lo len i → Inside lo len j → above i j ≡ above′ i j) →
+    tree above d lo len ≡ tree above′ d lo len
 unfolding tree
 tree-cong above above′ zero lo len agree = refl
 tree-cong above above′ (suc d) lo len agree = go (ltb 1 len) refl (tree-cong above above′ d)
@@ -75,7 +80,8 @@ tree-cong above above′ (suc d) lo len agree = go (ltb 1 len) refl (tree-cong a
 walk-le : (above : ℕ → ℕ → Bool) (n : ℕ) → walk above n ≤ n
 unfolding walk
 walk-le above zero = omega arith
-walk-le above (suc k) = picked (λ (w : ℕ). w ≤ suc k) (above k (walk above k)) (walk above k) k (omega (arith, walk-le above k)) (omega arith)
+walk-le above (suc k) =
+    picked (λ (w : ℕ). w ≤ suc k) (above k (walk above k)) (walk above k) k (omega (arith, walk-le above k)) (omega arith)
 
 walk-cong : (above above′ : ℕ → ℕ → Bool) (n : ℕ) → ((i j : ℕ) → i < n → j < n → above i j ≡ above′ i j) → walk above n ≡ walk above′ n
 unfolding walk
@@ -87,13 +93,17 @@ walk-cong above above′ (suc k) agree =
 
 -- ---- keys read off the records
 
-pub highest-by-keys : (l : List Source) (n : ℕ) (ks : List ℕ) → ((i : ℕ) → i < n → getD ks i 0 ≡ rank (getD l i noSource)) → (r : ℕ) → HighestKey ks 0 n r → r ≡ highest l n
+pub highest-by-keys : (l : List Source) (n : ℕ) (ks : List ℕ) → RanksOf l n ks → (r : ℕ) → HighestKey ks 0 n r → r ≡ highest l n
 unfolding highest
 highest-by-keys l n ks same r e =
     e n (omega arith) ∙
     tree-cong (keyAbove ks) (higher l) n 0 n (λ i j h g. ap₂ ltb (same j (omega arith)) (same i (omega arith)))
 
-pub least-by-keys : (l : List Core) (m : ℕ) (cs : List ℕ) → ((k : ℕ) → k < m → getD cs k 0 ≡ currentPriority (getD l k noCore)) → walk (keyBelow cs) m ≡ least l m
+-- cs holds the current priority of each of the first m cores
+abbrev pub CurrentsOf : List Core → ℕ → List ℕ → Type 0
+CurrentsOf l m cs = FilledTo currentPriority noCore l m cs
+
+pub least-by-keys : (l : List Core) (m : ℕ) (cs : List ℕ) → CurrentsOf l m cs → walk (keyBelow cs) m ≡ least l m
 unfolding least
 least-by-keys l m cs same =
     walk-cong (keyBelow cs) (lower l) m (λ i j h g. ap₂ ltb (same i h) (same j g))

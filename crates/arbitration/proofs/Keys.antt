@@ -41,7 +41,9 @@ pub record Beside (ks : List ℕ) (lo len x y : ℕ) : Type 0 where
   pub left : getD ks y 0 ≤ getD ks x 0 → HighestKey ks lo len x
 
 -- the ranges have a and b keys
-pub beside : (ks : List ℕ) (lo a b len x y : ℕ) → 1 ≤ a → 1 ≤ b → a + b ≡ len → HighestKey ks lo a x → HighestKey ks (lo + a) b y → Beside ks lo len x y
+pub beside :
+    (ks : List ℕ) (lo a b len x y : ℕ) → 1 ≤ a → 1 ≤ b → a + b ≡ len → HighestKey ks lo a x → HighestKey ks (lo + a) b y →
+    Beside ks lo len x y
 beside ks lo a b len x y h g s f e =
     record { right = λ p. highest-key ks lo len y (right p); left = λ p. highest-key ks lo len x (left p) }
   where

@@ -67,7 +67,9 @@ highest-rank-ge l n i h =
 candidate-rank-le : (r t : Source) → rank r ≤ rank t → candidate r ≡ true → candidate t ≡ true
 candidate-rank-le r t h p = confirmed (candidate t) (λ q. omega (arith, rank-candidate r p, rank-none t q))
 
-pub highest-ge : (l : List Source) (n i : ℕ) → i < n → candidate (getD l i noSource) ≡ true → (candidate (getD l (highest l n) noSource) ≡ true) × ((getD l i noSource) .priority ≤ (getD l (highest l n) noSource) .priority)
+pub highest-ge :
+    (l : List Source) (n i : ℕ) → i < n → candidate (getD l i noSource) ≡ true →
+    (candidate (getD l (highest l n) noSource) ≡ true) × ((getD l i noSource) .priority ≤ (getD l (highest l n) noSource) .priority)
 highest-ge l n i h p =
     let u : rank (getD l i noSource) ≤ rank (getD l (highest l n) noSource) = highest-rank-ge l n i h in
     let q : candidate (getD l (highest l n) noSource) ≡ true = candidate-rank-le (getD l i noSource) (getD l (highest l n) noSource) u p in
@@ -105,7 +107,9 @@ module _ (l : List Source) (n : ℕ) where
   none-candidate e i h = refuted (candidate (getD l i noSource)) (λ p. clash (highest-ge l n i h p .0) (id-none e))
 
   -- a candidate of a lower id is strictly below: it would have kept a tie
-  earlier-lt : 1 ≤ n → candidate best ≡ true → (i : ℕ) → i < highest l n → candidate (getD l i noSource) ≡ true → (getD l i noSource) .priority < best .priority
+  earlier-lt :
+      1 ≤ n → candidate best ≡ true → (i : ℕ) → i < highest l n → candidate (getD l i noSource) ≡ true →
+      (getD l i noSource) .priority < best .priority
   earlier-lt h q i g p =
       let u : rank (getD l i noSource) < rank best = ltb-true _ _ (tree-finds-first l n h .before i g) in
       omega (arith, u, rank-candidate (getD l i noSource) p, rank-candidate best q)

@@ -10,7 +10,6 @@ use model::SOURCES;
 
 // The index of the first highest of the len keys from lo: the range is halved until one key or one pair is left, and the left
 // side keeps a tie. lo itself for an empty range.
-// Rules out: a tie to the right (`tie_to_the_right`); the right half left out (`left_half_only`).
 pub fn highest(keys: &[u32; SOURCES], lo: usize, len: usize) -> usize
     requires { ⌜ lo + len ≤ maxSources ⌝ }
     ensures { λ r. ⌜ HighestKey (now (keys .entry)) lo len r ⌝ }
@@ -35,7 +34,6 @@ pub fn highest(keys: &[u32; SOURCES], lo: usize, len: usize) -> usize
 }
 
 // The index of the first least of the first m numbers; 0 for none.
-// Rules out: a tie to the higher number (`tie_to_the_later`); the last core left out (`last_left_out`).
 pub fn least(currents: &[u16; CORES], m: usize) -> usize
     requires { ⌜ m ≤ maxCores ⌝ }
     ensures { λ r. ⌜ r ≡ walk (keyBelow (now (currents .entry))) m ⌝ }

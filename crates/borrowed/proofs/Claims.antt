@@ -10,11 +10,7 @@ use Rattle.model.specs.declared.Taken.{Taken}
 use Rattle.model.specs.Records.{maxSources, sourceId, taken}
 use Rattle.model.specs.Priorities.{topPriority}
 use Rattle.model.specs.Commands.{claimedCore, malformed, nothingToClaim}
-use Rattle.model.specs.Borrowed.{claimable, takenFrom}
-use Rattle.model.proofs.Priorities.{top-priority-values}
-
-pub top-is : topPriority maxSources ≡ 511
-top-is = top-priority-values .3
+use Rattle.borrowed.specs.Lent.{claimable, takenFrom}
 
 -- which of three cases two tests pick
 module _ (f b : Bool) (x y z : Taken) where
@@ -49,14 +45,14 @@ module _ (c : Core) where
       priority-low e = rw (le-leb 1 id above, le-leb id maxSources within, lt-leb 1 p (omega arith))
 
       module _ (some : 1 ≤ p) where
-        pub priority-high : 511 < p → false ≡ claimable c
+        pub priority-high : topPriority maxSources < p → false ≡ claimable c
         unfolding claimable
         priority-high h =
-            rw (le-leb 1 id above, le-leb id maxSources within, le-leb 1 p some, lt-leb p (topPriority maxSources) (omega (arith, top-is)))
+            rw (le-leb 1 id above, le-leb id maxSources within, le-leb 1 p some, lt-leb p (topPriority maxSources) h)
 
-        module _ (fits : p ≤ 511) where
+        module _ (fits : p ≤ topPriority maxSources) where
           in-range : leb p (topPriority maxSources) ≡ true
-          in-range = le-leb p (topPriority maxSources) (omega (arith, top-is))
+          in-range = le-leb p (topPriority maxSources) fits
 
           pub not-above : p ≤ c .configured → false ≡ claimable c
           unfolding claimable

@@ -2,20 +2,20 @@
 --   Filled l       how far the copying is, and the row: its first i keys are the ranks of the first i records
 --   Further        the order in which the loop falls: fewer records left
 use Prim.Native.Nat.{ℕ, _+_, _-_, _<_, _≤_}
-use mathlib.Core.Path.{_≡_, refl, ap, _∙_}
+use mathlib.Core.Path.{_≡_, refl, ap}
 use mathlib.Core.List.{List}
 use mathlib.Core.WellFounded.{WellFounded, InvImage·wf}
 use native.Mathlib.Omega.{arith}
 use native.Mathlib.Decide.{decLe}
-use lib.ListN.{length, getD, set, replicate, length-set, length-replicate}
-use lib.Seq.{getD-set-same, getD-set-other}
+use lib.ListN.{length, getD, set, replicate}
 use lib.WfN.{Nat·lt-wfRel}
-use borrow.Author.Count.{below-more}
 use Rattle.model.specs.declared.Source.{Source}
 use Rattle.model.specs.Records.{maxSources, noSource}
 use Rattle.model.specs.Arbitration.{rank}
+use Rattle.lists.proofs.Filling.{Filling, filling-none, filling-more}
+use Rattle.arbitration.specs.Keys.{RanksOf}
 use Rattle.borrowed.specs.declared.Extent.{Extent}
-use Rattle.borrowed.specs.Keys.{readOf, RanksOf}
+use Rattle.borrowed.specs.Keys.{readOf}
 use Rattle.borrowed.proofs.Searches.{extent-whole, extent-none}
 
 -- what is read lies inside the list, and inside the row
@@ -38,16 +38,15 @@ pub zeros-are : replicate maxSources 0 ≡ zeros
 unfolding zeros
 zeros-are = refl
 
-pub zeros-full : length zeros ≡ maxSources
+pub zeros-filling : (l : List Source) → Filling rank noSource l maxSources 0 zeros
 unfolding zeros
-zeros-full = length-replicate {A = ℕ} maxSources 0
+zeros-filling l = filling-none rank noSource l maxSources
 
 pub record Filled (l : List Source) : Type 0 where
   pub i : ℕ
   pub keys : List ℕ
   pub within : i ≤ readOf (length l)
-  pub full : length keys ≡ maxSources
-  pub ranks : RanksOf l i keys
+  pub filling : Filling rank noSource l maxSources i keys
 
 module _ (l : List Source) where
   abbrev left : Filled l → ℕ
@@ -66,29 +65,18 @@ module _ (l : List Source) where
         i = i;
         keys = zeros;
         within = omega arith;
-        full = zeros-full;
-        ranks = λ j h. absurd (omega arith);
+        filling = rw e (zeros-filling l);
       }
 
   -- the next record's rank is put in
   module _ (f : Filled l) (k : ℕ) (more : f .i < readOf (length l)) (e : k ≡ rank (getD l (f .i) noSource)) where
-    in-row : f .i < length (f .keys)
-    in-row = omega (arith, read-inside (length l) .1, f .full)
-
-    pub more-ranks : RanksOf l (f .i + 1) (set (f .keys) (f .i) k)
-    more-ranks =
-        below-more (λ (j : ℕ). getD (set (f .keys) (f .i) k) j 0 ≡ rank (getD l j noSource)) (f .i)
-        (λ j h. getD-set-other (f .keys) (f .i) j k 0 (omega arith) ∙ f .ranks j h)
-        (getD-set-same (f .keys) (f .i) k 0 in-row ∙ e)
-
     abbrev pub one-more : Filled l
     one-more =
         record {
           i = f .i + 1;
           keys = set (f .keys) (f .i) k;
           within = omega arith;
-          full = length-set (f .keys) (f .i) k ∙ f .full;
-          ranks = more-ranks;
+          filling = filling-more rank noSource l (f .filling) (omega (arith, read-inside (length l) .1)) k e;
         }
 
     pub nearer : Further one-more f
@@ -96,4 +84,4 @@ module _ (l : List Source) where
 
   -- nothing is left: the keys are the ranks of all that is read
   pub all-filled : (f : Filled l) → readOf (length l) ≤ f .i → RanksOf l (readOf (length l)) (f .keys)
-  all-filled f h j g = f .ranks j (omega arith)
+  all-filled f h j g = f .filling .filled j (omega arith)

@@ -2,7 +2,7 @@
 --   Claims      which case of the claim of a record its tests pick
 --   Searches    the search by keys, and that it agrees with the plain walk
 --   Filling     the row of keys while the ranks are copied into it
---   LentClaim   on a sound state the claim of a record is the command
 pub mod Claims
 pub mod Searches
 pub mod Filling
+pub mod LentExamples

@@ -14,13 +14,13 @@ use Rattle.lists.specs.Walks.{tree}
 use Rattle.model.specs.Requests.{candidate}
 use Rattle.model.specs.Arbitration.{rank, highest, highestId}
 use Rattle.model.specs.Commands.{badSize}
-use Rattle.model.specs.Borrowed.{foundIn, foundByWalk, FoundIsWalk}
-use Rattle.arbitration.specs.Keys.{HighestKey}
+use Rattle.borrowed.specs.Lent.{foundIn, foundByWalk, FoundIsWalk}
+use Rattle.arbitration.specs.Keys.{HighestKey, RanksOf}
 use Rattle.arbitration.proofs.Tree.{tree-is-walk}
 use Rattle.arbitration.proofs.Keys.{highest-inside}
 use Rattle.arbitration.proofs.ByKeys.{highest-by-keys}
 use Rattle.borrowed.specs.declared.Extent.{Extent}
-use Rattle.borrowed.specs.Keys.{extent, extentOf, RanksOf, PositionByKeys, FoundByKeys}
+use Rattle.borrowed.specs.Keys.{extent, extentOf, PositionByKeys, FoundByKeys}
 
 -- ---- what the length says
 

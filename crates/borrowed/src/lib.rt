@@ -2,7 +2,7 @@
 ghost use Prim.Native.Nat.{_≤_};
 ghost use mathlib.Core.Path.{_≡_};
 ghost use Rattle.model.specs.Records.{maxSources, taken, claimedAs};
-ghost use Rattle.model.specs.Borrowed.{claimable as claimableCore, takenFrom, foundIn};
+ghost use Rattle.borrowed.specs.Lent.{claimable as claimableCore, takenFrom, foundIn};
 ghost use Rattle.borrowed.specs.Keys.{extentOf, PositionByKeys, FoundByKeys};
 use model::Claimed;
 use model::Core;
@@ -11,9 +11,6 @@ use model::SOURCES;
 use model::Source;
 use model::SourceId;
 use model::Taken;
-
-// The top priority of 128 sources.
-const TOP: u16 = 511;
 
 // ---- the numbers for no
 
@@ -32,8 +29,6 @@ fn outcome(number: u8, id: SourceId, core: Core) -> Taken
 }
 
 // Whether a filled box can be claimed.
-// Rules out: "not above" read as "below" (`equal_priority_claimed`); a range cut short (`id_128_refused`, `top_of_127_sources`) or begun at
-// 0 (`priority_zero_claimed`); a dirty box claimed (`filled_for_dirty`).
 fn claimable(c: Core) -> bool
     ensures { λ b. ⌜ b ≡ claimableCore c ⌝ }
 {
@@ -48,7 +43,7 @@ fn claimable(c: Core) -> bool
     if b.priority == 0 {
         return false;
     }
-    if b.priority > TOP {
+    if records::top_priority(SOURCES as u16) < b.priority as u32 {
         return false;
     }
     if b.priority <= c.configured {
@@ -58,8 +53,6 @@ fn claimable(c: Core) -> bool
 }
 
 // The claim of a core record by value.
-// Rules out: 1 and 7 mixed up (`empty_refused_by_one`, `bad_refused_by_seven`); an id answered or the record altered by a refusal
-// (`id_with_a_refusal`, `refused_record_altered`); a box left filled, so that the next claim answers the same id (`record_left_filled`).
 pub fn take(c: Core) -> Taken
     ensures { λ r. ⌜ r ≡ takenFrom c ⌝ }
 {
@@ -75,7 +68,6 @@ pub fn take(c: Core) -> Taken
 }
 
 // The same on a record that the host lends: it is taken apart, and written back also by a refusal, as it was.
-// Rules out: a record left as lent by a claim that is answered (`record_left_as_lent`), and what `take` rules out.
 #[no_mangle]
 pub extern "C" fn psic_claim_in_place(c: &mut Core) -> Claimed
     ensures { λ r. ⌜ (r ≡ claimedAs (takenFrom (now (c .entry)))) × (now (c .exit) ≡ (takenFrom (now (c .entry))) .core) ⌝ }
@@ -97,8 +89,6 @@ struct Extent {
 }
 
 // A list that is too long is refused, and none of its records is read.
-// Rules out: a list of 128 refused (`length_128_refused`); a longer one refused by another number (`too_long_refused_by_one`); a list
-// left unread (`list_unread`).
 fn extent_of(len: usize) -> Extent
     ensures { λ r. ⌜ r ≡ extentOf len ⌝ }
 {
@@ -115,8 +105,6 @@ fn extent_of(len: usize) -> Extent
 }
 
 // The position plus one of the first highest of n keys, 0 if it is 0: rank 0 is no candidate.
-// Rules out: a candidate of priority 0 passed over (`priority_zero_passed_over`); a position counted from 0 (`position_from_zero`); a
-// record left out (`first_left_out`).
 fn position(keys: &[u32; SOURCES], n: usize) -> u16
     requires { ⌜ n ≤ maxSources ⌝ }
     ensures { λ r. ⌜ PositionByKeys (now (keys .entry)) n r ⌝ }
@@ -145,7 +133,6 @@ fn search(keys: &[u32; SOURCES], e: Extent) -> Found
 
 // The search over a list that the host lends: the ranks are copied out, and the comparator tree runs over them. Whatever the records
 // hold: the list's order decides a tie.
-// Rules out: the first record left uncopied (`first_record_uncopied`), and what the functions above rule out.
 #[no_mangle]
 pub extern "C" fn psic_highest_in(list: &[Source]) -> Found
     ensures { λ r. ⌜ r ≡ foundIn (now (list .entry)) ⌝ }

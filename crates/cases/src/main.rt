@@ -3,8 +3,10 @@ mod print;
 mod script;
 
 use model::Answer;
+use model::Command;
 use model::Controller;
 use model::Decoded;
+use model::SourceAction;
 use model::SourceId;
 
 // The table's start state, by the commands that set it up.
@@ -12,8 +14,14 @@ fn start() -> Controller {
     let mut s = commands::make(32, 2).state;
     let mut id = 1u16;
     while id <= 32 {
-        let a = commands::set_source_priority(s, SourceId(id), id);
-        let b = commands::unmask(a.state, SourceId(id));
+        let a = commands::execute(
+            s,
+            Command::OnSource(SourceId(id), SourceAction::SetSourcePriority(id)),
+        );
+        let b = commands::execute(
+            a.state,
+            Command::OnSource(SourceId(id), SourceAction::Unmask),
+        );
         s = b.state;
         id += 1;
     }

@@ -4,7 +4,9 @@ use model::CORES;
 use model::Command;
 use model::Controller;
 use model::Core;
+use model::CoreAction;
 use model::Source;
+use model::SourceAction;
 
 fn text(bytes: &[u8]) {
     io::write_all(1, bytes);
@@ -20,40 +22,52 @@ fn setting(at: u16, priority: u16) {
     number(priority);
 }
 
+fn on_source(id: u16, a: SourceAction) {
+    match a {
+        SourceAction::SetSourcePriority(priority) => {
+            text(b"set source ");
+            setting(id, priority);
+        }
+        SourceAction::Mask => {
+            text(b"mask ");
+            number(id);
+        }
+        SourceAction::Unmask => {
+            text(b"unmask ");
+            number(id);
+        }
+        SourceAction::Trigger => {
+            text(b"trigger ");
+            number(id);
+        }
+        SourceAction::Redeliver => {
+            text(b"redeliver ");
+            number(id);
+        }
+        SourceAction::Complete => {
+            text(b"complete ");
+            number(id);
+        }
+    }
+}
+
+fn on_core(core: u16, a: CoreAction) {
+    match a {
+        CoreAction::SetCorePriority(priority) => {
+            text(b"set core ");
+            setting(core, priority);
+        }
+        CoreAction::Claim => {
+            text(b"claim on core ");
+            number(core);
+        }
+    }
+}
+
 pub fn command(c: Command) {
     match c {
-        Command::SetSourcePriority(id, priority) => {
-            text(b"set source ");
-            setting(id.0, priority);
-        }
-        Command::Mask(id) => {
-            text(b"mask ");
-            number(id.0);
-        }
-        Command::Unmask(id) => {
-            text(b"unmask ");
-            number(id.0);
-        }
-        Command::SetCorePriority(core, priority) => {
-            text(b"set core ");
-            setting(core.0, priority);
-        }
-        Command::Trigger(id) => {
-            text(b"trigger ");
-            number(id.0);
-        }
-        Command::Claim(core) => {
-            text(b"claim on core ");
-            number(core.0);
-        }
-        Command::Redeliver(id) => {
-            text(b"redeliver ");
-            number(id.0);
-        }
-        Command::Complete(id) => {
-            text(b"complete ");
-            number(id.0);
-        }
+        Command::OnSource(id, a) => on_source(id.0, a),
+        Command::OnCore(core, a) => on_core(core.0, a),
     }
 }
 

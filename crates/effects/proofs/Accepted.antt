@@ -17,11 +17,13 @@ module _ (s : Controller) (c : Command) where
   unfolding execute
   execute-accepted e = rw (eq-eqb (refusal s c) 0 e)
 
-  pub execute-refused : (refusal s c ≡ 0 → ⊥) → execute s c ≡ refused s (refusal s c)
+  pub execute-refused : (refusal s c ≡ 0 → ⊥) → execute s c ≡ refused s c (refusal s c)
   unfolding execute
   execute-refused h = rw (ne-eqb (refusal s c) 0 h)
 
-  pub by-answer : (P : Answer → Type 0) → (refusal s c ≡ 0 → P (settled (effect s c) (answeredId s c))) → ((refusal s c ≡ 0 → ⊥) → P (refused s (refusal s c))) → P (execute s c)
+  pub by-answer :
+      (P : Answer → Type 0) → (refusal s c ≡ 0 → P (settled (effect s c) (answeredId s c))) →
+      ((refusal s c ≡ 0 → ⊥) → P (refused s c (refusal s c))) → P (execute s c)
   by-answer P settles stays = go (ℕ-discrete (refusal s c) 0)
     where
       go : Dec (refusal s c ≡ 0) → P (execute s c)

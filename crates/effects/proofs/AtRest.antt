@@ -4,25 +4,26 @@
 --   delivered       the deliveries from an effect on, where nothing is to be retracted, are its settling
 --   claim-answer    a claim leaves nothing to settle: every core's current priority is the same before and after
 use Prim.Native.Nat.{ℕ, _*_, _<_}
-use mathlib.Core.Path.{_≡_, refl, ap, _∙_}
+use mathlib.Core.Path.{_≡_, ap, _∙_}
 use mathlib.Core.Bool.{true}
 use native.Mathlib.Omega.{arith}
 use borrow.Author.Tests.{lt-ltb}
 use Rattle.model.specs.declared.CoreId.{CoreId}
 use Rattle.model.specs.declared.Controller.{Controller}
-use Rattle.model.specs.declared.Answer.{Answer}
-use Rattle.model.specs.declared.Command.the-variants.{Claim}
+use Rattle.model.specs.declared.Command.the-variants.{OnCore}
+use Rattle.model.specs.declared.CoreAction.the-variants.{Claim}
 use Rattle.model.specs.declared.Cycle.the-variants.{Rest}
 use Rattle.model.specs.Records.{coreAt, withCore, answer}
 use Rattle.model.specs.WellFormed.{WellFormed, Consistent}
-use Rattle.model.specs.Settling.{next, settle, isRetraction, isDelivery, cyclesOf}
+use Rattle.model.specs.Settling.{next, settle}
 use Rattle.model.specs.Commands.{claimedCore, effect, refusalOf, refusal, answeredId, settled, execute}
 use Rattle.lists.proofs.Bools.{clash}
-use Rattle.soundness.proofs.Test.{wellFormed-in}
+use Rattle.well_formed.proofs.Test.{wellFormed-in}
 use Rattle.settling.specs.Phases.{Delivering}
+use Rattle.settling.specs.declared.Reached.{Reached}
 use Rattle.settling.specs.Runs.{AfterDeliveries}
 use Rattle.settling.proofs.Next.{Settled, Next, resting, retracting, arbitrating, next-cases}
-use Rattle.settling.proofs.Run.{settle-rest, count-rest}
+use Rattle.settling.proofs.Run.{settle-rest, cyclesOf-rest}
 use Rattle.effects.proofs.Accepted.{execute-accepted}
 use Rattle.effects.proofs.CoreEffects.{claimed-delivering, current-same}
 use Rattle.effects.proofs.Effects.{wellFormed-delivering, effect-begins}
@@ -36,17 +37,13 @@ still s c d calm = go (next-cases s (c .some-source) (c .some-core))
     go (arbitrating i k e clean con) = absurd (omega (arith, con .above, calm i k (con .source-in) (con .core-in) (con .is-candidate)))
 
 module _ (s : Controller) (rest : next s ≡ Rest) where
-  no-cycles : (f : ℕ) → cyclesOf f s ≡ 0
-  unfolding cyclesOf
-  no-cycles f = omega (arith, count-rest s rest isRetraction refl f, count-rest s rest isDelivery refl f)
-
   pub unmoved : (id : ℕ) → settled s id ≡ answer s 0 id 0
   unfolding settled
-  unmoved id = rw (settle-rest s rest (2 * s .m), no-cycles (2 * s .m))
+  unmoved id = rw (settle-rest s rest (2 * s .m), cyclesOf-rest s rest (2 * s .m))
 
-pub delivered : (s : Controller) (id : ℕ) {r : Answer} → AfterDeliveries s id 0 r → r ≡ settled s id
+pub delivered : (s : Controller) (id : ℕ) {r : Reached} → AfterDeliveries s 0 r → answer (r .state) 0 id (r .cycles) ≡ settled s id
 unfolding settled
-delivered s id {r} after = after (2 * s .m) (omega arith) ∙ ap (answer (settle (2 * s .m) s) 0 id) (omega arith)
+delivered s id {r} after = rw (after (2 * s .m) (omega arith)) (ap (answer (settle (2 * s .m) s) 0 id) (omega arith))
 
 module _ (s : Controller) (w : WellFormed s) (k : CoreId) (k-lt : k .0 < s .m) (filled : (coreAt s (k .0)) .message .filled ≡ true) where
   abbrev after : Controller
@@ -55,7 +52,7 @@ module _ (s : Controller) (w : WellFormed s) (k : CoreId) (k-lt : k .0 < s .m) (
   old : Consistent s
   old = w .consistent
 
-  claim-accepted : refusal s (Claim k) ≡ 0
+  claim-accepted : refusal s (OnCore k Claim) ≡ 0
   unfolding refusal refusalOf
   claim-accepted = rw (wellFormed-in s w, lt-ltb (k .0) (s .m) k-lt, filled)
 
@@ -63,11 +60,11 @@ module _ (s : Controller) (w : WellFormed s) (k : CoreId) (k-lt : k .0 < s .m) (
   unfolding effect
   claim-rests =
       still after
-      ((effect-begins s w (Claim k) (k-lt, filled)) .0)
+      ((effect-begins s w (OnCore k Claim) (k-lt, filled)) .0)
       (claimed-delivering s old (k .0) k-lt filled (wellFormed-delivering s w))
       (λ i j i-lt j-lt e. rw (current-same s old (k .0) k-lt filled j) (w .quiet .candidates-settled i j i-lt j-lt e))
 
-  pub claim-answer : execute s (Claim k) ≡ answer after 0 ((coreAt s (k .0)) .message .source .0) 0
+  pub claim-answer : execute s (OnCore k Claim) ≡ answer after 0 ((coreAt s (k .0)) .message .source .0) 0
   unfolding effect answeredId
   claim-answer =
-      execute-accepted s (Claim k) claim-accepted ∙ unmoved after claim-rests ((coreAt s (k .0)) .message .source .0)
+      execute-accepted s (OnCore k Claim) claim-accepted ∙ unmoved after claim-rests ((coreAt s (k .0)) .message .source .0)

@@ -1,7 +1,7 @@
 -- What the checks say of the state and of a command's arguments if it is accepted. Assumes nothing.
 --   InTop top p     p is 1 to top
 --   Named s id      id is 1 to n
---   Checked s c     what the checks of command c say of its arguments, in their order
+--   Checked s c     what the checks of command c say of its arguments, in their order; of its subject SourceChecked, CoreChecked
 --   by-index        from the indices of sources to their ids
 --   checked         they say it of a command that they don't refuse
 --   accepted        a command that is not refused finds a sound state besides
@@ -14,15 +14,19 @@ use borrow.Author.Tests.{ltb-true, leb-true, not-true}
 use Rattle.model.specs.declared.SourceId.{SourceId}
 use Rattle.model.specs.declared.Controller.{Controller}
 use Rattle.model.specs.declared.Command.{Command}
-use Rattle.model.specs.declared.Command.the-variants.{SetSourcePriority, Mask, Unmask, SetCorePriority, Trigger, Claim, Redeliver, Complete}
+use Rattle.model.specs.declared.Command.the-variants.{OnSource, OnCore}
+use Rattle.model.specs.declared.SourceAction.{SourceAction}
+use Rattle.model.specs.declared.SourceAction.the-variants.{SetSourcePriority, Mask, Unmask, Trigger, Redeliver, Complete}
+use Rattle.model.specs.declared.CoreAction.{CoreAction}
+use Rattle.model.specs.declared.CoreAction.the-variants.{SetCorePriority, Claim}
 use Rattle.model.specs.Records.{indexOf, sourceAt, coreAt}
 use Rattle.model.specs.Priorities.{topPriority}
 use Rattle.model.specs.Requests.{claimed}
 use Rattle.lists.specs.Numbers.{between}
 use Rattle.model.specs.WellFormed.{wellFormed, WellFormed}
-use Rattle.model.specs.Commands.{unless, namesSource, namesCore, refusalOf, refusal}
+use Rattle.model.specs.Commands.{unless, namesSource, namesCore, sourceRefusal, coreRefusal, refusalOf, refusal}
 use Rattle.lists.proofs.Exact.{between-exact}
-use Rattle.soundness.proofs.Test.{wellFormed-out}
+use Rattle.well_formed.proofs.Test.{wellFormed-out}
 
 abbrev pub InTop : ℕ → ℕ → Type 0
 InTop top p = (1 ≤ p) × (p ≤ top)
@@ -30,15 +34,23 @@ InTop top p = (1 ≤ p) × (p ≤ top)
 abbrev pub Named : Controller → SourceId → Type 0
 Named s id = InTop (s .n) (id .0)
 
+-- of the source at index i, after its id
+abbrev pub SourceChecked : Controller → ℕ → SourceAction → Type 0
+SourceChecked s i (SetSourcePriority p) = InTop (topPriority (s .n)) p
+SourceChecked s i Mask = Unit {0}
+SourceChecked s i Unmask = Unit {0}
+SourceChecked s i Trigger = (sourceAt s i) .pending ≡ false
+SourceChecked s i Redeliver = claimed s i ≡ true
+SourceChecked s i Complete = claimed s i ≡ true
+
+-- of core k, after its number
+abbrev pub CoreChecked : Controller → ℕ → CoreAction → Type 0
+CoreChecked s k (SetCorePriority p) = p ≤ topPriority (s .n)
+CoreChecked s k Claim = (coreAt s k) .message .filled ≡ true
+
 abbrev pub Checked : Controller → Command → Type 0
-Checked s (SetSourcePriority id p) = Named s id × InTop (topPriority (s .n)) p
-Checked s (Mask id) = Named s id
-Checked s (Unmask id) = Named s id
-Checked s (SetCorePriority k p) = (k .0 < s .m) × (p ≤ topPriority (s .n))
-Checked s (Trigger id) = Named s id × ((sourceAt s (indexOf id)) .pending ≡ false)
-Checked s (Claim k) = (k .0 < s .m) × ((coreAt s (k .0)) .message .filled ≡ true)
-Checked s (Redeliver id) = Named s id × (claimed s (indexOf id) ≡ true)
-Checked s (Complete id) = Named s id × (claimed s (indexOf id) ≡ true)
+Checked s (OnSource id a) = Named s id × SourceChecked s (indexOf id) a
+Checked s (OnCore k a) = (k .0 < s .m) × CoreChecked s (k .0) a
 
 module _ (s : Controller) (id : SourceId) where
   named : namesSource s id ≡ true → Named s id
@@ -57,34 +69,28 @@ passed : (b : Bool) (number later : ℕ) → unless b (suc number) later ≡ 0 �
 passed true number later e = (refl, e)
 passed false number later e = absurd (omega arith)
 
-both : (a b : Bool) (x y : ℕ) → unless a (suc x) (unless b (suc y) 0) ≡ 0 → (a ≡ true) × (b ≡ true)
-both a b x y e =
-    let first : (a ≡ true) × (unless b (suc y) 0 ≡ 0) = passed a x (unless b (suc y) 0) e in
-    (first .0, (passed b y 0 (first .1)) .0)
-
 -- The numerals are the refusals' numbers, less one.
+source-checked : (s : Controller) (i : ℕ) (a : SourceAction) → sourceRefusal s i a ≡ 0 → SourceChecked s i a
+source-checked s i (SetSourcePriority p) e =
+    (between-exact 1 (topPriority (s .n)) p) .0 ((passed (between 1 (topPriority (s .n)) p) 4 0 e) .0)
+source-checked s i Mask e = tt
+source-checked s i Unmask e = tt
+source-checked s i Trigger e = not-true ((sourceAt s i) .pending) ((passed (not ((sourceAt s i) .pending)) 5 0 e) .0)
+source-checked s i Redeliver e = (passed (claimed s i) 7 0 e) .0
+source-checked s i Complete e = (passed (claimed s i) 7 0 e) .0
+
+core-checked : (s : Controller) (k : ℕ) (a : CoreAction) → coreRefusal s k a ≡ 0 → CoreChecked s k a
+core-checked s k (SetCorePriority p) e = leb-true p (topPriority (s .n)) ((passed (leb p (topPriority (s .n))) 4 0 e) .0)
+core-checked s k Claim e = (passed ((coreAt s k) .message .filled) 6 0 e) .0
+
 pub checked : (s : Controller) (c : Command) → refusalOf s c ≡ 0 → Checked s c
 unfolding refusalOf
-checked s (SetSourcePriority id p) e =
-    let (a, b) = both (namesSource s id) (between 1 (topPriority (s .n)) p) 3 4 e in
-    (named s id a, (between-exact 1 (topPriority (s .n)) p) .0 b)
-checked s (Mask id) e = named s id ((passed (namesSource s id) 3 0 e) .0)
-checked s (Unmask id) e = named s id ((passed (namesSource s id) 3 0 e) .0)
-checked s (SetCorePriority k p) e =
-    let (a, b) = both (namesCore s k) (leb p (topPriority (s .n))) 2 4 e in
-    (ltb-true (k .0) (s .m) a, leb-true p (topPriority (s .n)) b)
-checked s (Trigger id) e =
-    let (a, b) = both (namesSource s id) (not ((sourceAt s (indexOf id)) .pending)) 3 5 e in
-    (named s id a, not-true ((sourceAt s (indexOf id)) .pending) b)
-checked s (Claim k) e =
-    let (a, b) = both (namesCore s k) ((coreAt s (k .0)) .message .filled) 2 6 e in
-    (ltb-true (k .0) (s .m) a, b)
-checked s (Redeliver id) e =
-    let (a, b) = both (namesSource s id) (claimed s (indexOf id)) 3 7 e in
-    (named s id a, b)
-checked s (Complete id) e =
-    let (a, b) = both (namesSource s id) (claimed s (indexOf id)) 3 7 e in
-    (named s id a, b)
+checked s (OnSource id a) e =
+    let (here, rest) = passed (namesSource s id) 3 (sourceRefusal s (indexOf id) a) e in
+    (named s id here, source-checked s (indexOf id) a rest)
+checked s (OnCore k a) e =
+    let (here, rest) = passed (namesCore s k) 2 (coreRefusal s (k .0) a) e in
+    (ltb-true (k .0) (s .m) here, core-checked s (k .0) a rest)
 
 pub accepted : (s : Controller) (c : Command) → refusal s c ≡ 0 → WellFormed s × Checked s c
 unfolding refusal

@@ -80,7 +80,8 @@ abbrev pub claimedCores : Controller → ℕ → List Core
 claimedCores s k = set (s .cores) k (claimedCore (coreAt s k))
 
 module _ (s : Controller) (c : Consistent s) (k : ℕ) (k-lt : k < s .m) (filled : (coreAt s k) .message .filled ≡ true) where
-  read-claimed : (P : Core → Type 0) (j : ℕ) → (j ≡ k → P (claimedCore (coreAt s k))) → P (coreAt s j) → P (getD (claimedCores s k) j noCore)
+  read-claimed :
+      (P : Core → Type 0) (j : ℕ) → (j ≡ k → P (claimedCore (coreAt s k))) → P (coreAt s j) → P (getD (claimedCores s k) j noCore)
   read-claimed P j same old =
       let fits : k < length (s .cores) = omega arith in
       read-set P (s .cores) k j (claimedCore (coreAt s k)) noCore fits same (λ h. old)
@@ -122,7 +123,9 @@ abbrev pub setCores : Controller → ℕ → ℕ → List Core
 setCores s k p = map soiled (set (s .cores) k (coreWith p ((coreAt s k) .message)))
 
 module _ (s : Controller) (c : Consistent s) (k : ℕ) (k-lt : k < s .m) (p : ℕ) (p-le : p ≤ topPriority (s .n)) where
-  read-after : (P : Core → Type 0) (j : ℕ) → (j ≡ k → P (soiled (coreWith p ((coreAt s k) .message)))) → P (soiled (coreAt s j)) → P (getD (setCores s k p) j noCore)
+  read-after :
+      (P : Core → Type 0) (j : ℕ) → (j ≡ k → P (soiled (coreWith p ((coreAt s k) .message)))) → P (soiled (coreAt s j)) →
+      P (getD (setCores s k p) j noCore)
   read-after P j same old =
       let fits : k < length (s .cores) = omega arith in
       let l : List Core = set (s .cores) k (coreWith p ((coreAt s k) .message)) in
@@ -130,7 +133,9 @@ module _ (s : Controller) (c : Consistent s) (k : ℕ) (k-lt : k < s .m) (p : �
       (read-set (λ d. P (soiled d)) (s .cores) k j (coreWith p ((coreAt s k) .message)) noCore fits same (λ h. old))
 
   -- a core in use has some priority in range and its soiled box
-  read-used : (P : Core → Type 0) (j : ℕ) → j < s .m → ((q : ℕ) → q ≤ topPriority (s .n) → P (soiled (coreWith q ((coreAt s j) .message)))) → P (getD (setCores s k p) j noCore)
+  read-used :
+      (P : Core → Type 0) (j : ℕ) → j < s .m → ((q : ℕ) → q ≤ topPriority (s .n) → P (soiled (coreWith q ((coreAt s j) .message)))) →
+      P (getD (setCores s k p) j noCore)
   read-used P j h each =
       read-after P j (λ e. rw (← e) (each p p-le)) (each ((coreAt s j) .configured) (c .configured-core j h))
 

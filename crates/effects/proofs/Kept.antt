@@ -1,21 +1,20 @@
 -- A command keeps a sound state sound, and settles within its bounds. Assumes nothing.
 --   execute-settles    what settling does after an accepted command
 --   wellFormed-kept, nothing-cut-short, cycles-bounded    the statements of those names
-use Prim.Native.Nat.{ℕ, _+_, _-_, _*_, _≤_}
-use mathlib.Core.Path.{_≡_, refl, subst, _∙_}
+use Prim.Native.Nat.{ℕ, _-_, _*_, _≤_}
+use mathlib.Core.Path.{_≡_, refl, subst}
 use native.Mathlib.Omega.{arith}
+use Rattle.settling.proofs.Forward.{settle-beyond, countOf-beyond}
 use Rattle.model.specs.declared.Controller.{Controller}
 use Rattle.model.specs.declared.Cycle.{Cycle}
 use Rattle.model.specs.declared.Cycle.the-variants.{Rest}
 use Rattle.model.specs.declared.Command.{Command}
 use Rattle.model.specs.WellFormed.{WellFormed}
-use Rattle.model.specs.Settling.{next, settle, isRetraction, isDelivery, countOf, cyclesOf}
+use Rattle.model.specs.Settling.{settle, isRetraction, isDelivery, countOf, cyclesOf}
 use Rattle.model.specs.Commands.{effect, refusal, answeredId, settled, refused}
 use Rattle.model.specs.Statements.{WellFormedKept, EndedBy, NothingCutShort, CyclesBounded}
 use Rattle.settling.specs.Phases.{Settles}
 use Rattle.settling.proofs.Ends.{phases-settle}
-use Rattle.settling.proofs.Forward.{settle-add, countOf-add}
-use Rattle.settling.proofs.Run.{settle-rest, count-rest}
 use Rattle.effects.proofs.Accepted.{execute-accepted, by-answer}
 use Rattle.effects.proofs.Checked.{accepted}
 use Rattle.effects.proofs.Effects.{effect-m, effect-begins}
@@ -32,27 +31,16 @@ wellFormed-kept s c w = by-answer s c (λ a. WellFormed (a .state)) (λ e. (exec
 
 -- ---- cycles beyond those that a command takes
 
--- settling rests after t cycles
-module _ (e : Controller) (t : ℕ) (rests : next (settle t e) ≡ Rest) (f : ℕ) (more : t ≤ f) where
-  split : f ≡ t + (f - t)
-  split = omega arith
-
-  state-beyond : settle f e ≡ settle t e
-  state-beyond = rw split (settle-add t (f - t) e ∙ settle-rest (settle t e) rests (f - t))
-
-  count-beyond : (kind : Cycle → ℕ) → kind Rest ≡ 0 → countOf kind f e ≡ countOf kind t e
-  count-beyond kind none = rw split (omega (arith, countOf-add kind t (f - t) e, count-rest (settle t e) rests kind none (f - t)))
-
 -- what settles from e answers the same for any number of cycles from 2m on
 module _ (e : Controller) (done : Settles e) (f : ℕ) (more : 2 * e .m ≤ f) where
   same : (kind : Cycle → ℕ) → kind Rest ≡ 0 → countOf kind f e ≡ countOf kind (2 * e .m) e
-  same = count-beyond e (2 * e .m) (done .rests) f more
+  same = countOf-beyond e (2 * e .m) (done .rests) f more
 
   ended-by : (id : ℕ) → EndedBy f (e .m) e (settled e id)
   unfolding settled cyclesOf
   ended-by id =
       record {
-        same-state = state-beyond e (2 * e .m) (done .rests) f more;
+        same-state = settle-beyond e (2 * e .m) (done .rests) f more;
         same-count = omega (arith, same isRetraction refl, same isDelivery refl);
         at-rest = record { rests = done .rests; clean = done .wellFormed .clean; none-above = done .wellFormed .quiet .candidates-settled };
         retractions-le = omega (arith, same isRetraction refl, done .retractions);

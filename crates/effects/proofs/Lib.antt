@@ -6,3 +6,4 @@ pub mod CoreEffects
 pub mod Effects
 pub mod AtRest
 pub mod Kept
+pub mod Answers

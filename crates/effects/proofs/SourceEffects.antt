@@ -48,7 +48,9 @@ module _ (s : Controller) (c : Consistent s) (i : ℕ) (i-lt : i < s .n) (r : So
       read-set P (s .sources) i j r noSource fits same (λ h. old)
 
   -- the box of core k is backed by the records after the write
-  names : (k : ℕ) → k < s .m → (coreAt s k) .message .filled ≡ true → Names (coreAt s k) (sourceAt (withSource s i r) (indexOf ((coreAt s k) .message .source)))
+  names :
+      (k : ℕ) → k < s .m → (coreAt s k) .message .filled ≡ true →
+      Names (coreAt s k) (sourceAt (withSource s i r) (indexOf ((coreAt s k) .message .source)))
   names k k-lt filled =
       let d : Core = coreAt s k in
       let j : ℕ = indexOf (d .message .source) in

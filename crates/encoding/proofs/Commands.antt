@@ -4,37 +4,39 @@ use mathlib.Core.Path.{_≡_, refl}
 use mathlib.Core.List.{List, [], _∷_, List·Memᴰ, List·Memᴰ·head, List·Memᴰ·tail}
 use native.Mathlib.Omega.{arith}
 use Rattle.model.specs.declared.Command.{Command}
-use Rattle.model.specs.declared.Command.the-variants.{SetSourcePriority, Mask, Unmask, SetCorePriority, Trigger, Claim, Redeliver, Complete}
+use Rattle.model.specs.declared.Command.the-variants.{OnSource, OnCore}
+use Rattle.model.specs.declared.SourceAction.the-variants.{SetSourcePriority, Mask, Unmask, Trigger, Redeliver, Complete}
+use Rattle.model.specs.declared.CoreAction.the-variants.{SetCorePriority, Claim}
 use Rattle.model.specs.declared.Decoded.the-variants.{Known}
-use Rattle.model.specs.Encoding.{commandOf, numberOf, targetOf, levelOf}
+use Rattle.layout.specs.Commands.{commandOf, numberOf, targetOf, levelOf}
 use Rattle.lists.specs.Rows.{joined}
-use Rattle.model.specs.Bytes.{commandSize, commandBytes, commandsIn}
-use Rattle.encoding.specs.Statements.{CommandFits, CommandsReadBack, PackedRead}
+use Rattle.layout.specs.Bytes.{commandSize, commandBytes, commandsIn}
+use Rattle.layout.specs.Statements.{CommandFits, CommandsReadBack, PackedRead}
 use Rattle.encoding.proofs.Records.{word-back}
 use Rattle.lists.proofs.Rows.{length-joined}
 use Rattle.encoding.proofs.Octets.{Octets, none, next, are-bytes, octets-append, octets-word}
 
 number-small : (c : Command) → numberOf c < 8
-number-small (SetSourcePriority id p) = omega arith
-number-small (Mask id) = omega arith
-number-small (Unmask id) = omega arith
-number-small (SetCorePriority k p) = omega arith
-number-small (Trigger id) = omega arith
-number-small (Claim k) = omega arith
-number-small (Redeliver id) = omega arith
-number-small (Complete id) = omega arith
+number-small (OnSource id (SetSourcePriority p)) = omega arith
+number-small (OnSource id Mask) = omega arith
+number-small (OnSource id Unmask) = omega arith
+number-small (OnCore k (SetCorePriority p)) = omega arith
+number-small (OnSource id Trigger) = omega arith
+number-small (OnCore k Claim) = omega arith
+number-small (OnSource id Redeliver) = omega arith
+number-small (OnSource id Complete) = omega arith
 
 -- a command is named by its numbers
 pub named : (c : Command) → commandOf (numberOf c) (targetOf c) (levelOf c) ≡ Known c
 unfolding commandOf
-named (SetSourcePriority id p) = refl
-named (Mask id) = refl
-named (Unmask id) = refl
-named (SetCorePriority k p) = refl
-named (Trigger id) = refl
-named (Claim k) = refl
-named (Redeliver id) = refl
-named (Complete id) = refl
+named (OnSource id (SetSourcePriority p)) = refl
+named (OnSource id Mask) = refl
+named (OnSource id Unmask) = refl
+named (OnCore k (SetCorePriority p)) = refl
+named (OnSource id Trigger) = refl
+named (OnCore k Claim) = refl
+named (OnSource id Redeliver) = refl
+named (OnSource id Complete) = refl
 
 read-back : (cs : List Command) → commandsIn (joined commandBytes cs) ≡ cs
 unfolding joined commandsIn

@@ -15,7 +15,7 @@ use lib.ListN.{length, getD}
 use lib.Dec.{leb}
 use Rattle.model.specs.Records.{maxSources, maxCores}
 use Rattle.lists.specs.Walks.{every}
-use Rattle.model.specs.Bytes.{sourcesFrom, coresFrom, sourceSize, coreSize, stateSize, sourceFlags, coreFlags, isState}
+use Rattle.layout.specs.Bytes.{sourcesFrom, coresFrom, sourceSize, coreSize, stateSize, sourceFlags, coreFlags, isState}
 use Rattle.lists.proofs.Bools.{and-in, clash, refuted}
 use Rattle.lists.proofs.Walks.{every-out}
 

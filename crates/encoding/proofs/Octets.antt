@@ -11,9 +11,9 @@ use Rattle.model.specs.declared.Source.{Source}
 use Rattle.model.specs.declared.Core.{Core}
 use Rattle.model.specs.declared.Controller.{Controller}
 use Rattle.model.specs.Records.{maxSources, maxCores, noSource, noCore, sourceAt, coreAt}
-use Rattle.model.specs.Bytes.{flagByte, wordAt, sourceSize, coreSize, sourcesFrom, coresFrom, sourceBytes, coreBytes, stateBytes, stateFrom}
+use Rattle.layout.specs.Bytes.{flagByte, wordAt, sourceSize, coreSize, sourcesFrom, coresFrom, sourceBytes, coreBytes, stateBytes, stateFrom}
 use Rattle.lists.specs.Rows.{joined}
-use Rattle.encoding.specs.Statements.{Fits, SourceFits, CoreFits, IsWord, AreBytes, BytesFit}
+use Rattle.layout.specs.Statements.{Fits, SourceFits, CoreFits, IsWord, AreBytes, BytesFit}
 use Rattle.encoding.proofs.Reading.{sourceOf, coreOf}
 use Rattle.lists.proofs.Rows.{length-tabulated, getD-tabulated}
 

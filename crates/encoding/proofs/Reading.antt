@@ -15,7 +15,7 @@ use Rattle.model.specs.declared.MessageBox.{MessageBox}
 use Rattle.model.specs.declared.Core.{Core}
 use Rattle.model.specs.declared.Controller.{Controller}
 use Rattle.model.specs.Records.{maxSources, maxCores, sourceId, sourceWith, boxWith, coreWith, withSource, withCore, reset}
-use Rattle.model.specs.Bytes.{wordAt, flagAt, sourcesFrom, coresFrom, sourceSize, coreSize, sourceFrom, coreFrom, stateFrom}
+use Rattle.layout.specs.Bytes.{wordAt, flagAt, sourcesFrom, coresFrom, sourceSize, coreSize, sourceFrom, coreFrom, stateFrom}
 use Rattle.lists.specs.Rows.{tabulated}
 
 -- ---- one record

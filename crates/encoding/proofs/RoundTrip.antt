@@ -11,11 +11,11 @@ use lib.Dec.{eqb}
 use Rattle.model.specs.declared.Controller.{Controller}
 use Rattle.model.specs.Records.{maxSources, maxCores, noSource, noCore, sourceAt, coreAt}
 use Rattle.lists.specs.Walks.{every}
-use Rattle.model.specs.Bytes.{word, wordAt, sourceSize, coreSize, stateSize, sourcesFrom, coresFrom, sourceBytes, coreBytes, stateBytes, stateFrom, isState}
+use Rattle.layout.specs.Bytes.{word, wordAt, sourceSize, coreSize, stateSize, sourcesFrom, coresFrom, sourceBytes, coreBytes, stateBytes, stateFrom, isState}
 use Rattle.lists.specs.Rows.{joined, tabulated}
 use Rattle.lists.proofs.Bools.{and-l, and-r}
 use Rattle.lists.proofs.Walks.{every-in, every-out}
-use Rattle.encoding.specs.Statements.{Sized, StateReadBack, StateEncoded, BytesWrittenBack}
+use Rattle.layout.specs.Statements.{Sized, StateReadBack, StateEncoded, BytesWrittenBack}
 use Rattle.encoding.proofs.Flags.{sourceFlagsOf, coreFlagsOf}
 use Rattle.encoding.proofs.Reading.{sourceOf, coreOf}
 use Rattle.encoding.proofs.Octets.{state-bytes, byte}
@@ -137,7 +137,8 @@ module _ (b : List ℕ) (are : (i : ℕ) → getD b i 0 < 256) (size : length b 
 pub bytes-written-back : BytesWrittenBack
 unfolding isState
 bytes-written-back b are e =
-    written-back b (byte b are) (eqb-true (length b) stateSize (and-l size sources both)) (and-r size sources both) (and-r (size && sources) cores e)
+    written-back b (byte b are) (eqb-true (length b) stateSize (and-l size sources both)) (and-r size sources both)
+    (and-r (size && sources) cores e)
   where
     size : Bool
     size = eqb (length b) stateSize

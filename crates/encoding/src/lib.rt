@@ -5,16 +5,18 @@ ghost use mathlib.Core.Path.{_≡_};
 ghost use mathlib.Core.List.{_∷_, _++_};
 ghost use lib.ListN.{length};
 ghost use lib.Seq.{sets};
-ghost use Rattle.model.specs.Encoding.{commandOf};
-ghost use Rattle.model.specs.Bytes.{word, flagByte, wordAt, sourceSize, coreSize, stateSize, sourceBytes, coreBytes, stateBytes, sourceFrom, coreFrom, stateFrom, sourceFlags, coreFlags, isState, answerSize};
+ghost use Rattle.layout.specs.Commands.{commandOf};
+ghost use Rattle.layout.specs.Bytes.{word, flagByte, wordAt, sourceSize, coreSize, stateSize, sourceBytes, coreBytes, stateBytes, sourceFrom, coreFrom, stateFrom, sourceFlags, coreFlags, isState, answerSize};
 use model::CORES;
 use model::Command;
 use model::Controller;
 use model::Core;
+use model::CoreAction;
 use model::CoreId;
 use model::Decoded;
 use model::SOURCES;
 use model::Source;
+use model::SourceAction;
 use model::SourceId;
 
 // The bytes of a source and of a core; where the sources and the cores begin, and the state ends.
@@ -31,7 +33,6 @@ pub const STATE_SIZE: usize = CORES_FROM + CORE_SIZE * CORES;
 // ---- reading
 
 // The word at i, its lower byte first.
-// Rules out: the upper byte first (`word_read_upper_first`); an upper byte that counts 255 (`word_read_by_255`).
 pub fn word_at(b: &[u8], i: usize) -> u16
     requires { ⌜ i + 1 < length (now b) ⌝ }
     ensures { λ r. ⌜ r ≡ wordAt (now (b .entry)) i ⌝ }
@@ -56,7 +57,6 @@ fn source_from(b: &[u8], i: usize) -> Source
 }
 
 // The core whose bytes begin at i.
-// Rules out: the box's source and priority in each other's place (`source_and_priority_swapped`).
 fn core_from(b: &[u8], i: usize) -> Core
     requires { ⌜ i + coreSize ≤ length (now b) ⌝ }
     ensures { λ r. ⌜ r ≡ coreFrom (now (b .entry)) i ⌝ }
@@ -69,7 +69,6 @@ fn core_from(b: &[u8], i: usize) -> Core
 }
 
 // The state that the bytes encode.
-// Rules out: n and m in each other's place (`sizes_read_swapped`); the last core left unread (`one_core_too_few_read`).
 pub fn state_from(b: &[u8]) -> Controller
     requires { ⌜ length (now b) ≡ stateSize ⌝ }
     ensures { λ r. ⌜ r ≡ stateFrom (now (b .entry)) ⌝ }
@@ -89,7 +88,6 @@ pub fn state_from(b: &[u8]) -> Controller
 }
 
 // Whether the three flags of the source at i are flags.
-// Rules out: a byte 2 taken for a flag (`flag_of_two_accepted`).
 fn source_flags(b: &[u8], i: usize) -> bool
     requires { ⌜ i + sourceSize ≤ length (now b) ⌝ }
     ensures { λ r. ⌜ r ≡ sourceFlags (now (b .entry)) i ⌝ }
@@ -115,7 +113,6 @@ fn core_flags(b: &[u8], i: usize) -> bool
 }
 
 // Whether the bytes encode a state: the length is right, and each flag is 0 or 1.
-// Rules out: a byte too few (`one_byte_too_few_accepted`); the last core left untested (`last_core_untested`).
 pub fn is_state(b: &[u8]) -> bool
     ensures { λ r. ⌜ r ≡ isState (now (b .entry)) ⌝ }
 {
@@ -140,26 +137,24 @@ pub fn is_state(b: &[u8]) -> bool
 }
 
 // The command that three numbers name: its own, 0 to 7, the id or the core, and the priority. A number above 7 names none.
-// Rules out: a number 8 taken for a command (`eight_decoded`); two commands whose numbers are swapped (`mask_and_unmask_swapped`).
 pub fn command(number: u16, at: u16, p: u16) -> Decoded
     ensures { λ r. ⌜ r ≡ commandOf number at p ⌝ }
 {
     match number {
-        0 => Decoded::Known(Command::SetSourcePriority(SourceId(at), p)),
-        1 => Decoded::Known(Command::Mask(SourceId(at))),
-        2 => Decoded::Known(Command::Unmask(SourceId(at))),
-        3 => Decoded::Known(Command::SetCorePriority(CoreId(at), p)),
-        4 => Decoded::Known(Command::Trigger(SourceId(at))),
-        5 => Decoded::Known(Command::Claim(CoreId(at))),
-        6 => Decoded::Known(Command::Redeliver(SourceId(at))),
-        7 => Decoded::Known(Command::Complete(SourceId(at))),
+        0 => Decoded::Known(Command::OnSource(SourceId(at), SourceAction::SetSourcePriority(p))),
+        1 => Decoded::Known(Command::OnSource(SourceId(at), SourceAction::Mask)),
+        2 => Decoded::Known(Command::OnSource(SourceId(at), SourceAction::Unmask)),
+        3 => Decoded::Known(Command::OnCore(CoreId(at), CoreAction::SetCorePriority(p))),
+        4 => Decoded::Known(Command::OnSource(SourceId(at), SourceAction::Trigger)),
+        5 => Decoded::Known(Command::OnCore(CoreId(at), CoreAction::Claim)),
+        6 => Decoded::Known(Command::OnSource(SourceId(at), SourceAction::Redeliver)),
+        7 => Decoded::Known(Command::OnSource(SourceId(at), SourceAction::Complete)),
         _ => Decoded::Unknown,
     }
 }
 
 // ---- writing
 
-// Rules out: the upper byte first (`word_written_upper_first`).
 fn put_word(b: &mut [u8], i: usize, x: u16)
     requires { ⌜ i + 1 < length (now b) ⌝ }
     ensures { λ r. ⌜ now (b .exit) ≡ sets (now (b .entry)) i (word x) ⌝ }
@@ -174,7 +169,6 @@ fn flag_byte(x: bool) -> u8
     if x { 1 } else { 0 }
 }
 
-// Rules out: two flags in each other's place (`flags_written_swapped`).
 fn put_source(b: &mut [u8], i: usize, r: Source)
     requires { ⌜ i + sourceSize ≤ length (now b) ⌝ }
     ensures { λ x. ⌜ now (b .exit) ≡ sets (now (b .entry)) i (sourceBytes r) ⌝ }
@@ -186,7 +180,6 @@ fn put_source(b: &mut [u8], i: usize, r: Source)
     put_word(b, i + 5, r.priority);
 }
 
-// Rules out: a byte left unwritten (`last_byte_unwritten`).
 fn put_core(b: &mut [u8], i: usize, c: Core)
     requires { ⌜ i + coreSize ≤ length (now b) ⌝ }
     ensures { λ x. ⌜ now (b .exit) ≡ sets (now (b .entry)) i (coreBytes c) ⌝ }
@@ -199,7 +192,6 @@ fn put_core(b: &mut [u8], i: usize, c: Core)
 }
 
 // The state's bytes, written over a buffer of just their length.
-// Rules out: n and m in each other's place (`sizes_written_swapped`); the last source left unwritten (`one_source_too_few`).
 pub fn put_state(b: &mut [u8], s: Controller)
     requires { ⌜ length (now b) ≡ stateSize ⌝ }
     ensures { λ r. ⌜ now (b .exit) ≡ stateBytes s ⌝ }
@@ -223,7 +215,6 @@ pub fn put_state(b: &mut [u8], s: Controller)
 }
 
 // Number, id and cycles of an answer.
-// Rules out: id and cycles in each other's place (`id_and_cycles_swapped`); the id over the number (`id_over_number`).
 pub fn put_answer(b: &mut [u8], i: usize, number: u8, id: SourceId, cycles: u16)
     requires { ⌜ i + answerSize ≤ length (now b) ⌝ }
     ensures { λ r. ⌜ now (b .exit) ≡ sets (now (b .entry)) i (number ∷ (word (id .0) ++ word cycles)) ⌝ }

@@ -12,7 +12,7 @@ use native.Mathlib.Omega.{arith}
 use lib.Dec.{eqb, leb}
 use borrow.Author.Tests.{eq-eqb, ne-eqb, le-leb, lt-leb, eqb-true, leb-true}
 use Rattle.lists.proofs.Bools.{and-l, and-r, and-in, Flag, on, off, flag}
-use Rattle.model.specs.Bytes.{stateSize, isState, commandSize, answerSize, roomFor, fitsRun}
+use Rattle.layout.specs.Bytes.{stateSize, isState, commandSize, answerSize, roomFor, fitsRun}
 
 pub state-size : (b : List ℕ) → isState b ≡ true → length b ≡ stateSize
 unfolding isState

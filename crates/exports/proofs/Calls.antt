@@ -17,8 +17,8 @@ use Rattle.model.specs.declared.Decoded.the-variants.{Unknown, Known}
 use Rattle.model.specs.declared.Answer.{Answer}
 use Rattle.model.specs.Commands.{execute, make, run}
 use Rattle.model.specs.Ledger.{answersTo}
-use Rattle.model.specs.Encoding.{commandOf}
-use Rattle.model.specs.Bytes.{stateSize, stateBytes, stateFrom, isState, commandsIn, answerBytes, unreadable, packed, Call, callOf, Does, makeCall, executedOn, executeCall, DoesRun, noCount, fitsRun, RunCall, runCallOf, runCall}
+use Rattle.layout.specs.Commands.{commandOf}
+use Rattle.layout.specs.Bytes.{stateSize, stateBytes, stateFrom, isState, commandsIn, answerBytes, unreadable, packed, Call, callOf, Does, makeCall, executedOn, executeCall, DoesRun, noCount, fitsRun, RunCall, runCallOf, runCall}
 use Rattle.lists.specs.Rows.{joined}
 
 done : (r : ℕ) (b : List ℕ) (call : Call) → call ≡ callOf r b → Does r b call

@@ -13,8 +13,8 @@ use native.Mathlib.Omega.{arith}
 use Rattle.model.specs.declared.Command.{Command}
 use Rattle.model.specs.declared.Decoded.{Decoded}
 use Rattle.model.specs.declared.Decoded.the-variants.{Unknown, Known}
-use Rattle.model.specs.Encoding.{commandOf}
-use Rattle.model.specs.Bytes.{wordAt, commandSize, orEnd, commandsIn}
+use Rattle.layout.specs.Commands.{commandOf}
+use Rattle.layout.specs.Bytes.{wordAt, commandSize, orEnd, commandsIn}
 
 orEnd-length : (d : Decoded) (rest : List Command) → length (orEnd d rest) ≤ suc (length rest)
 orEnd-length Unknown rest = omega arith

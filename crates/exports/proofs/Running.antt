@@ -17,7 +17,7 @@ use Rattle.model.specs.declared.Command.{Command}
 use Rattle.model.specs.declared.Decoded.the-variants.{Known}
 use Rattle.model.specs.declared.Answer.{Answer}
 use Rattle.model.specs.Commands.{execute, run}
-use Rattle.model.specs.Bytes.{stateFrom, stateBytes, isState, DoesRun, runCall, commandSize, commandsIn, answerBytes}
+use Rattle.layout.specs.Bytes.{stateFrom, stateBytes, isState, DoesRun, runCall, commandSize, commandsIn, answerBytes}
 use Rattle.lists.specs.Rows.{joined}
 use Rattle.exports.proofs.Commands.{commandAt, commands-there}
 use Rattle.exports.proofs.Buffers.{sets-append, fits}

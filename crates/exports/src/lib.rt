@@ -1,9 +1,9 @@
-// The calls for hosts in C and Rust. Each is proved to write what its definition in model/specs/Bytes.antt says and nothing else,
+// The calls for hosts in C and Rust. Each is proved to write what its definition in layout/specs/Bytes.antt says and nothing else,
 // on any bytes whatever. Unreadable bytes and buffers that do not fit are answered by 255, or by 2^64 - 1 where the answer is a count,
 // and leave every buffer as it was.
 ghost use Prim.Native.Nat.{_+_, _*_};
 ghost use mathlib.Core.Path.{_≡_};
-ghost use Rattle.model.specs.Bytes.{Does, makeCall, executeCall, DoesRun, runCall};
+ghost use Rattle.layout.specs.Bytes.{Does, makeCall, executeCall, DoesRun, runCall};
 use model::Decoded;
 use model::SourceId;
 
@@ -12,7 +12,6 @@ const UNREADABLE: u64 = 255;
 const NO_COUNT: u64 = 18446744073709551615;
 
 // Number, id and cycles in 8, 16 and 16 binary digits, the number lowest.
-// Rules out: id and cycles in each other's place (`id_and_cycles_swapped`); an id that begins inside the number (`number_overlapped`).
 fn packed(number: u8, id: SourceId, cycles: u16) -> u64
     ensures { λ r. ⌜ r ≡ number + 256 * (id .0 + 65536 * cycles) ⌝ }
 {
@@ -20,8 +19,6 @@ fn packed(number: u8, id: SourceId, cycles: u16) -> u64
 }
 
 // A fresh controller of n sources and m cores, written as bytes. Sizes out of range are refused by 2, and the buffer stays as it was.
-// Rules out: a buffer overwritten by a refusal (`refused_make_written`); a refusal answered as a success (`make_number_dropped`); a
-// controller of other sizes (`sizes_swapped`); a buffer longer than a state (`longer_buffer_accepted`).
 #[no_mangle]
 pub extern "C" fn psic_make(n: u16, m: u16, state: &mut [u8]) -> u64
     ensures { λ r. ⌜ Does r (now (state .exit)) (makeCall n m (now (state .entry))) ⌝ }
@@ -40,8 +37,6 @@ pub extern "C" fn psic_make(n: u16, m: u16, state: &mut [u8]) -> u64
 }
 
 // One command, by its number 0 to 7, on the state that the bytes encode.
-// Rules out: the state given, written back instead of the state reached (`state_given_back`); a refusal answered as a success
-// (`execute_number_dropped`).
 #[no_mangle]
 pub extern "C" fn psic_execute(state: &mut [u8], number: u16, at: u16, priority: u16) -> u64
     ensures { λ r. ⌜ Does r (now (state .exit)) (executeCall number at priority (now (state .entry))) ⌝ }
@@ -63,9 +58,6 @@ pub extern "C" fn psic_execute(state: &mut [u8], number: u16, at: u16, priority:
 
 // A list of commands, 5 bytes each, from the state that the bytes encode; an answer of 5 bytes for each. A command with a number
 // above 7 ends the run: the count says how many were taken.
-// Rules out: a cut end (`cut_end_run`); answers written over one another (`answers_at_front`) or past their buffer
-// (`byte_per_answer`); a refusal answered as a success (`list_number_dropped`); a count of bytes (`bytes_counted`) or of commands that
-// were not taken (`whole_list_counted`).
 #[no_mangle]
 pub extern "C" fn psic_run(state: &mut [u8], list: &[u8], answers: &mut [u8]) -> u64
     ensures { λ r. ⌜ DoesRun r (now (state .exit)) (now (answers .exit))

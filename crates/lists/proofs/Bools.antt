@@ -2,10 +2,12 @@
 --   and-in, and-l, and-r      a conjunction from its parts, and its parts
 --   or-in-l, or-in-r, or-off  a disjunction from a part; the second part where the first fails
 --   not-in                    a negation; taken apart it is `not-true` and `not-false` of borrow.Author.Tests
+--   failing, passing          what `!w` says of the test b that w is the answer of
 --   clash                     a flag has one value: from both anything follows
 --   refuted, confirmed        a flag that can't be true is false, one that can't be false is true
 --   flag                      a flag is true or false, for a proof by cases with the equation kept
 use mathlib.Core.Path.{_≡_, refl, sym, _∙_}
+use borrow.Author.Tests.{not-true, not-false}
 use mathlib.Core.Bool.{Bool, true, false, not, _&&_, _||_, true≢false}
 
 pub and-in : {a b : Bool} → a ≡ true → b ≡ true → a && b ≡ true
@@ -32,6 +34,13 @@ or-off false b e f = e
 
 pub not-in : {a : Bool} → a ≡ false → not a ≡ true
 not-in {a} p = rw p
+
+module _ {w b : Bool} (is : w ≡ b) where
+  pub failing : not w ≡ true → b ≡ false
+  failing e = sym is ∙ not-true w e
+
+  pub passing : not w ≡ false → b ≡ true
+  passing e = sym is ∙ not-false w e
 
 pub clash {ℓ} : {A : Type ℓ} {a : Bool} → a ≡ true → a ≡ false → A
 clash p q = absurd (true≢false (sym p ∙ q))

@@ -96,7 +96,8 @@ reached-all (suc k) t f h =
     omega (arith, reach-up t (f k) (h k (omega arith)), reached-all k t f (λ i p. h i (omega arith)))
 
 module _ (t t′ : ℕ) (f g : ℕ → ℕ) where
-  pub reached-more : (m : ℕ) → ((k : ℕ) → k < m → t ≤ f k → t′ ≤ g k) → (k : ℕ) → k < m → f k < t → t′ ≤ g k → reached m t f < reached m t′ g
+  pub reached-more :
+      (m : ℕ) → ((k : ℕ) → k < m → t ≤ f k → t′ ≤ g k) → (k : ℕ) → k < m → f k < t → t′ ≤ g k → reached m t f < reached m t′ g
   reached-more m covers k p q r =
       total-lt (λ j. reach t (f j)) (λ j. reach t′ (g j)) m (λ j u. reach-mono t t′ (f j) (g j) (covers j u)) k p
       (omega (arith, reach-under t (f k) q, reach-up t′ (g k) r))

@@ -49,7 +49,9 @@ module _ (n : ℕ) (R : ℕ → ℕ → Type 0) (apart : (j k i : ℕ) → R j i
   total-sent zero f g sent = omega arith
   total-sent (suc m) f g sent = go (sent m (omega arith)) (total-sent m f)
     where
-      go : Sent n g (R m) (f m) → ((h : ℕ → ℕ) → ((k : ℕ) → k < m → Sent n h (R k) (f k)) → total m f ≤ total n h) → total m f + f m ≤ total n g
+      go :
+          Sent n g (R m) (f m) → ((h : ℕ → ℕ) → ((k : ℕ) → k < m → Sent n h (R k) (f k)) → total m f ≤ total n h) →
+          total m f + f m ≤ total n g
       go (nowhere e) rest = omega (arith, rest g (λ k p. sent k (omega arith)))
       go (to i p r q) rest =
           let others : (k : ℕ) → k < m → Sent n (write g i 0) (R k) (f k) =

@@ -4,6 +4,7 @@ pub mod Bools
 pub mod Walks
 pub mod Arrays
 pub mod Writes
+pub mod Filling
 pub mod Counting
 pub mod Winner
 pub mod Exact
@@ -11,3 +12,4 @@ pub mod Turns
 pub mod Counts
 pub mod Sorting
 pub mod Rows
+pub mod Fronts

@@ -19,7 +19,8 @@ unfolding joined
 joined-suc f [] i d h = absurd (not-suc-le-zero h)
 joined-suc f (x ∷ l) zero d h = append-nil (f x)
 joined-suc f (x ∷ l) (suc i) d h =
-    ap (λ (r : List ℕ). f x ++ r) (joined-suc f l i d (le-of-suc-le-suc h)) ∙ sym (append-assoc (f x) (joined f (take i l)) (f (getD l i d)))
+    ap (λ (r : List ℕ). f x ++ r) (joined-suc f l i d (le-of-suc-le-suc h)) ∙
+    sym (append-assoc (f x) (joined f (take i l)) (f (getD l i d)))
 
 pub joined-more :
     {A : Type 0} (f : A → List ℕ) (l : List A) (i : ℕ) (d : A) → i < length l →
@@ -49,7 +50,8 @@ module _ {A : Type 0} (f : A → List ℕ) (w : ℕ) (size : (x : A) → length 
   drop-joined (x ∷ l) rest zero d h = rw mul-zero (append-assoc (f x) (joined f l) rest)
   drop-joined (x ∷ l) rest (suc i) d h =
       let e : w * suc i ≡ length (f x) + w * i = mul-suc w i ∙ add-comm (w * i) w ∙ ap (λ (n : ℕ). n + w * i) (sym (size x)) in
-      rw (e, append-assoc (f x) (joined f l) rest) (drop-append-add (f x) (joined f l ++ rest) (w * i) ∙ drop-joined l rest i d (le-of-suc-le-suc h))
+      rw (e, append-assoc (f x) (joined f l) rest)
+      (drop-append-add (f x) (joined f l ++ rest) (w * i) ∙ drop-joined l rest i d (le-of-suc-le-suc h))
 
   -- record i of a row that stands at a place of b
   pub record-at :

@@ -24,7 +24,9 @@ module _ (f : ℕ → Bool) (from k : ℕ) where
     pub since-end : (n : ℕ) → k ≡ n → fresh ≡ every n (since f from)
     since-end n e = p ∙ ap (λ (i : ℕ). every i (since f from)) e
 
-    pub since-turn : from ≤ k → {r : Bool} → r ≡ f k → (not r ≡ true → false ≡ every (k + 1) (since f from)) × (not r ≡ false → fresh ≡ every (k + 1) (since f from))
+    pub since-turn :
+        from ≤ k → {r : Bool} → r ≡ f k →
+        (not r ≡ true → false ≡ every (k + 1) (since f from)) × (not r ≡ false → fresh ≡ every (k + 1) (since f from))
     unfolding every
     since-turn h {r} e = (λ q. rw (not-true r q, and-false) at turn, λ q. rw (not-false r q, and-true) at turn)
       where

@@ -151,7 +151,9 @@ module _ (above : ℕ → ℕ → Bool) (order : WeakOrder above) where
       w : ℕ
       w = winner above (tree above d lo (leftHalf len)) (tree above d (lo + leftHalf len) (len / 2))
 
-      go : (t : Bool) → ltb 1 len ≡ t → ((lo′ len′ : ℕ) → 1 ≤ len′ → len′ ≤ d → FirstIn above lo′ len′ (tree above d lo′ len′)) → FirstIn above lo len (cond t w lo)
+      go :
+          (t : Bool) → ltb 1 len ≡ t → ((lo′ len′ : ℕ) → 1 ≤ len′ → len′ ≤ d → FirstIn above lo′ len′ (tree above d lo′ len′)) →
+          FirstIn above lo len (cond t w lo)
       go true p rest =
           let q : 1 < len = ltb-true 1 len p in
           node lo (leftHalf len) (lo + leftHalf len) (len / 2) len _ _ refl (omega arith)

@@ -31,7 +31,9 @@ module _ {A B : Type 0} (read : ℕ → A → B) (l : List A) (i j : ℕ) (a d :
       go (no past) = rw (set-out l i a (omega arith))
 
   -- x and y are equal exactly where the place written is read
-  pub read-written : i < length l → (x y : ℕ) → (x ≡ y) ↔ (j ≡ i) → {v u : B} → (j ≡ i → v ≡ read j a) → u ≡ read j (getD l j d) → cond (eqb x y) v u ≡ read j (getD (set l i a) j d)
+  pub read-written :
+      i < length l → (x y : ℕ) → (x ≡ y) ↔ (j ≡ i) → {v u : B} → (j ≡ i → v ≡ read j a) → u ≡ read j (getD l j d) →
+      cond (eqb x y) v u ≡ read j (getD (set l i a) j d)
   read-written fits x y place {v} {u} new old =
       read-set (λ q. cond (eqb x y) v u ≡ read j q) l i j a d fits
       (λ e. rw (eq-eqb x y (place .1 e)) (new e))

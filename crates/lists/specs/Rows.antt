@@ -1,11 +1,14 @@
 -- Values laid in a row. Definitions only. Assumes nothing.
---   row n f            the numbers f 0, .., f (n - 1); `gather` joins lists so, `tabulated` takes values of any type
---   joined f l         the lists f x of each x of l, joined
---   write f at v       the function f with the value at one place replaced
-use Prim.Native.Nat.{ℕ, zero, suc}
+--   row n f                the numbers f 0, .., f (n - 1); `gather` joins lists so, `tabulated` takes values of any type
+--   joined f l             the lists f x of each x of l, joined
+--   write f at v           the function f with the value at one place replaced
+--   FilledTo f d l n ks    the first n numbers of ks are what f says of the first n elements of l
+use Prim.Native.Nat.{ℕ, zero, suc, _<_}
+use mathlib.Core.Path.{_≡_}
 use mathlib.Core.List.{List, [], _∷_, _++_}
 use mathlib.Core.Bool.{cond}
 use lib.Dec.{eqb}
+use lib.ListN.{getD}
 
 -- The lists f 0, f 1, .., f (n - 1), joined.
 unfoldable pub gather : ℕ → (ℕ → List ℕ) → List ℕ
@@ -29,3 +32,7 @@ joined f (x ∷ xs) = f x ++ joined f xs
 -- f with the value at one place replaced
 abbrev pub write {ℓ} : {A : Type ℓ} → (ℕ → A) → ℕ → A → ℕ → A
 write f at v x = cond (eqb x at) v (f x)
+
+-- Past its end the list reads as d, and ks as 0.
+abbrev pub FilledTo : {A : Type 0} → (A → ℕ) → A → List A → ℕ → List ℕ → Type 0
+FilledTo f d l n ks = (i : ℕ) → i < n → getD ks i 0 ≡ f (getD l i d)

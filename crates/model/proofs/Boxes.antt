@@ -42,6 +42,8 @@ module _ (l : List Core) (m id : ℕ) where
   unfolding boxed
   unboxed-out e = some-false-out m (λ j. holds id (getD l j noCore)) e
 
-pub boxed-agree : (l l′ : List Core) (m id : ℕ) → ((k : ℕ) → k < m → holds id (getD l k noCore) ≡ holds id (getD l′ k noCore)) → boxed l m id ≡ boxed l′ m id
+pub boxed-agree :
+    (l l′ : List Core) (m id : ℕ) → ((k : ℕ) → k < m → holds id (getD l k noCore) ≡ holds id (getD l′ k noCore)) →
+    boxed l m id ≡ boxed l′ m id
 unfolding boxed
 boxed-agree l l′ m id h = some-agree m (λ k. holds id (getD l k noCore)) (λ k. holds id (getD l′ k noCore)) h

@@ -9,5 +9,7 @@ use Rattle.model.specs.Requests.{boxed, claimed}
 use Rattle.lists.proofs.Bools.{and-l, and-r}
 
 -- it is pending and delivered, and lies in no box
-pub claimed-out : (s : Controller) (i : ℕ) → claimed s i ≡ true → ((sourceAt s i) .pending ≡ true) × ((sourceAt s i) .delivered ≡ true) × (boxed (s .cores) (s .m) (suc i) ≡ false)
+pub claimed-out :
+    (s : Controller) (i : ℕ) → claimed s i ≡ true →
+    ((sourceAt s i) .pending ≡ true) × ((sourceAt s i) .delivered ≡ true) × (boxed (s .cores) (s .m) (suc i) ≡ false)
 claimed-out s i e = search (and-l, and-r, not-true) depth 8

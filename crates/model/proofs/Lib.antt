@@ -4,7 +4,5 @@ pub mod Claims
 pub mod Priorities
 pub mod Candidates
 pub mod Examples
-pub mod LentExamples
 pub mod StateExamples
 pub mod LedgerExamples
-pub mod BytesExamples

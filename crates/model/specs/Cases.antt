@@ -9,11 +9,39 @@ use lib.Dec.{eqb}
 use Rattle.model.specs.declared.Controller.{Controller}
 use Rattle.model.specs.declared.Answer.{Answer}
 use Rattle.model.specs.declared.Command.{Command}
-use Rattle.model.specs.declared.Command.the-variants.{SetSourcePriority, Mask, Unmask, SetCorePriority, Trigger, Claim, Redeliver, Complete}
+use Rattle.model.specs.declared.Command.the-variants.{OnSource, OnCore}
+use Rattle.model.specs.declared.SourceAction.the-variants.{SetSourcePriority, Mask, Unmask, Trigger, Redeliver, Complete}
+use Rattle.model.specs.declared.CoreAction.the-variants.{SetCorePriority, Claim}
 use Rattle.model.specs.Records.{sourceId, coreId, sourceAt, coreAt, withConfigured, withMask, withSource, resetSource, reset}
 use Rattle.model.specs.Requests.{waiting, holds, claimed, Owner, bySource, byBox, bySoftware}
 use Rattle.model.specs.Commands.{execute, run}
 use Rattle.model.specs.Ledger.{currentPriorities}
+
+-- ---- the commands, by numbers
+
+sourcePriority : ℕ → ℕ → Command
+sourcePriority id p = OnSource (sourceId id) (SetSourcePriority p)
+
+mask : ℕ → Command
+mask id = OnSource (sourceId id) Mask
+
+unmask : ℕ → Command
+unmask id = OnSource (sourceId id) Unmask
+
+corePriority : ℕ → ℕ → Command
+corePriority k p = OnCore (coreId k) (SetCorePriority p)
+
+trigger : ℕ → Command
+trigger id = OnSource (sourceId id) Trigger
+
+claim : ℕ → Command
+claim k = OnCore (coreId k) Claim
+
+redeliver : ℕ → Command
+redeliver id = OnSource (sourceId id) Redeliver
+
+complete : ℕ → Command
+complete id = OnSource (sourceId id) Complete
 
 -- ---- the start state, and the commands that set it up
 
@@ -25,8 +53,9 @@ unfoldable pub start : Controller
 start = numbered 32 (reset 32 2)
 
 unfoldable pub setUp : ℕ → List Command
+unfolding sourcePriority unmask
 setUp zero = []
-setUp (suc k) = setUp k ++ (SetSourcePriority (sourceId (suc k)) (suc k) ∷ Unmask (sourceId (suc k)) ∷ [])
+setUp (suc k) = setUp k ++ (sourcePriority (suc k) (suc k) ∷ unmask (suc k) ∷ [])
 
 -- ---- a case
 
@@ -79,393 +108,94 @@ allPass (c ∷ cs) = passes c && allPass cs
 
 -- ---- the table
 
-sourcePriority : ℕ → ℕ → Command
-sourcePriority id p = SetSourcePriority (sourceId id) p
+-- the request of source id waits, lies in the box of core k, or is claimed
+waits : ℕ → Sight
+waits id = record { id = id; owner = bySource }
 
-corePriority : ℕ → ℕ → Command
-corePriority k p = SetCorePriority (coreId k) p
+inBox : ℕ → ℕ → Sight
+inBox id k = record { id = id; owner = byBox k }
 
-trigger : ℕ → Command
-trigger id = Trigger (sourceId id)
+taken : ℕ → Sight
+taken id = record { id = id; owner = bySoftware }
 
-claim : ℕ → Command
-claim k = Claim (coreId k)
-
-redeliver : ℕ → Command
-redeliver id = Redeliver (sourceId id)
-
-complete : ℕ → Command
-complete id = Complete (sourceId id)
-
-sight : ℕ → Owner → Sight
-sight id o = record { id = id; owner = o }
-
--- source 4 still masked: it is pending and waits
-t1 : Case
-t1 =
+-- After the commands before it, a command answers number, id and cycles; the two cores show these current priorities, and these
+-- owners are seen.
+case : List Command → Command → ℕ → ℕ → ℕ → ℕ → ℕ → List Sight → Case
+case before command number id cycles core0 core1 owners =
     record {
-      before = Mask (sourceId 4) ∷ [];
-      command = trigger 4;
-      number = 0;
-      id = 0;
-      cycles = 0;
-      currents = 0 ∷ 0 ∷ [];
-      owners = sight 4 bySource ∷ [];
+      before = before;
+      command = command;
+      number = number;
+      id = id;
+      cycles = cycles;
+      currents = core0 ∷ core1 ∷ [];
+      owners = owners;
     }
 
--- core 0's box
-t2 : Case
-t2 =
-    record {
-      before = [];
-      command = trigger 4;
-      number = 0;
-      id = 0;
-      cycles = 1;
-      currents = 4 ∷ 0 ∷ [];
-      owners = sight 4 (byBox 0) ∷ [];
-    }
-
-t3 : Case
-t3 =
-    record {
-      before = trigger 4 ∷ [];
-      command = trigger 3;
-      number = 0;
-      id = 0;
-      cycles = 1;
-      currents = 4 ∷ 3 ∷ [];
-      owners = sight 4 (byBox 0) ∷ sight 3 (byBox 1) ∷ [];
-    }
-
--- 3 is put back
-t4 : Case
-t4 =
-    record {
-      before = trigger 4 ∷ trigger 3 ∷ [];
-      command = trigger 5;
-      number = 0;
-      id = 0;
-      cycles = 1;
-      currents = 4 ∷ 5 ∷ [];
-      owners = sight 3 bySource ∷ sight 4 (byBox 0) ∷ sight 5 (byBox 1) ∷ [];
-    }
-
-t5 : Case
-t5 =
-    record {
-      before = trigger 4 ∷ trigger 3 ∷ trigger 5 ∷ [];
-      command = claim 0;
-      number = 0;
-      id = 4;
-      cycles = 0;
-      currents = 4 ∷ 5 ∷ [];
-      owners = sight 4 bySoftware ∷ sight 5 (byBox 1) ∷ sight 3 bySource ∷ [];
-    }
-
--- the box is empty
-t5again : Case
-t5again =
-    record {
-      before = trigger 4 ∷ trigger 3 ∷ trigger 5 ∷ claim 0 ∷ [];
-      command = claim 0;
-      number = 7;
-      id = 0;
-      cycles = 0;
-      currents = 4 ∷ 5 ∷ [];
-      owners = [];
-    }
-
--- 5 lies in a box
-t6 : Case
-t6 =
-    record {
-      before = trigger 4 ∷ trigger 3 ∷ trigger 5 ∷ claim 0 ∷ [];
-      command = complete 5;
-      number = 8;
-      id = 0;
-      cycles = 0;
-      currents = 4 ∷ 5 ∷ [];
-      owners = sight 5 (byBox 1) ∷ [];
-    }
-
--- the core's priority stays; 3 waits
-t7 : Case
-t7 =
-    record {
-      before = trigger 4 ∷ trigger 3 ∷ trigger 5 ∷ claim 0 ∷ [];
-      command = complete 4;
-      number = 0;
-      id = 0;
-      cycles = 0;
-      currents = 4 ∷ 5 ∷ [];
-      owners = sight 3 bySource ∷ sight 5 (byBox 1) ∷ [];
-    }
-
--- one retraction, two deliveries
-t8 : Case
-t8 =
-    record {
-      before = trigger 4 ∷ trigger 3 ∷ trigger 5 ∷ claim 0 ∷ complete 4 ∷ [];
-      command = corePriority 0 0;
-      number = 0;
-      id = 0;
-      cycles = 3;
-      currents = 5 ∷ 3 ∷ [];
-      owners = sight 5 (byBox 0) ∷ sight 3 (byBox 1) ∷ [];
-    }
-
-t9 : Case
-t9 =
-    record {
-      before = corePriority 0 3 ∷ corePriority 1 100 ∷ [];
-      command = trigger 4;
-      number = 0;
-      id = 0;
-      cycles = 1;
-      currents = 4 ∷ 100 ∷ [];
-      owners = sight 4 (byBox 0) ∷ [];
-    }
-
--- 002's own example
-t9then : Case
-t9then =
-    record {
-      before = corePriority 0 3 ∷ corePriority 1 100 ∷ trigger 4 ∷ [];
-      command = corePriority 1 0;
-      number = 0;
-      id = 0;
-      cycles = 2;
-      currents = 3 ∷ 4 ∷ [];
-      owners = sight 4 (byBox 1) ∷ [];
-    }
-
--- a request of the cores' own priority interrupts nobody
-t10 : Case
-t10 =
-    record {
-      before = corePriority 0 4 ∷ corePriority 1 4 ∷ [];
-      command = trigger 4;
-      number = 0;
-      id = 0;
-      cycles = 0;
-      currents = 4 ∷ 4 ∷ [];
-      owners = sight 4 bySource ∷ [];
-    }
-
--- the box on core 1
-t11 : Case
-t11 =
-    record {
-      before = trigger 4 ∷ claim 0 ∷ [];
-      command = redeliver 4;
-      number = 0;
-      id = 0;
-      cycles = 1;
-      currents = 4 ∷ 4 ∷ [];
-      owners = sight 4 (byBox 1) ∷ [];
-    }
-
-t12 : Case
-t12 =
-    record {
-      before = trigger 4 ∷ [];
-      command = trigger 4;
-      number = 6;
-      id = 0;
-      cycles = 0;
-      currents = 4 ∷ 0 ∷ [];
-      owners = sight 4 (byBox 0) ∷ [];
-    }
-
--- T10, then set source 4 to 9: a request keeps its own priority
-ownPriority : Case
-ownPriority =
-    record {
-      before = corePriority 0 4 ∷ corePriority 1 4 ∷ trigger 4 ∷ [];
-      command = sourcePriority 4 9;
-      number = 0;
-      id = 0;
-      cycles = 0;
-      currents = 4 ∷ 4 ∷ [];
-      owners = sight 4 bySource ∷ [];
-    }
-
--- source priority 127
-topAccepted : Case
-topAccepted =
-    record {
-      before = [];
-      command = sourcePriority 4 127;
-      number = 0;
-      id = 0;
-      cycles = 0;
-      currents = 0 ∷ 0 ∷ [];
-      owners = [];
-    }
-
--- source priority 128
-aboveTop : Case
-aboveTop =
-    record {
-      before = [];
-      command = sourcePriority 4 128;
-      number = 5;
-      id = 0;
-      cycles = 0;
-      currents = 0 ∷ 0 ∷ [];
-      owners = [];
-    }
-
--- source priority 0
-zeroPriority : Case
-zeroPriority =
-    record {
-      before = [];
-      command = sourcePriority 4 0;
-      number = 5;
-      id = 0;
-      cycles = 0;
-      currents = 0 ∷ 0 ∷ [];
-      owners = [];
-    }
-
--- core priority 0
-coreZero : Case
-coreZero =
-    record {
-      before = [];
-      command = corePriority 1 0;
-      number = 0;
-      id = 0;
-      cycles = 0;
-      currents = 0 ∷ 0 ∷ [];
-      owners = [];
-    }
-
--- core priority 128
-coreAboveTop : Case
-coreAboveTop =
-    record {
-      before = [];
-      command = corePriority 1 128;
-      number = 5;
-      id = 0;
-      cycles = 0;
-      currents = 0 ∷ 0 ∷ [];
-      owners = [];
-    }
-
--- id 33 with priority 0: the id is checked first
-sourceFirst : Case
-sourceFirst =
-    record {
-      before = [];
-      command = sourcePriority 33 0;
-      number = 4;
-      id = 0;
-      cycles = 0;
-      currents = 0 ∷ 0 ∷ [];
-      owners = [];
-    }
-
--- core 2 of two, with a priority above top: the core is checked first
-noSuchCore : Case
-noSuchCore =
-    record {
-      before = [];
-      command = corePriority 2 128;
-      number = 3;
-      id = 0;
-      cycles = 0;
-      currents = 0 ∷ 0 ∷ [];
-      owners = [];
-    }
-
--- 4 in a box, then masked: it can be claimed
-maskedInBox : Case
-maskedInBox =
-    record {
-      before = trigger 4 ∷ Mask (sourceId 4) ∷ [];
-      command = claim 0;
-      number = 0;
-      id = 4;
-      cycles = 0;
-      currents = 4 ∷ 0 ∷ [];
-      owners = sight 4 bySoftware ∷ [];
-    }
-
--- 4 in a box, then masked: after any set core priority it waits
-maskedRetracted : Case
-maskedRetracted =
-    record {
-      before = trigger 4 ∷ Mask (sourceId 4) ∷ [];
-      command = corePriority 1 0;
-      number = 0;
-      id = 0;
-      cycles = 1;
-      currents = 0 ∷ 0 ∷ [];
-      owners = sight 4 bySource ∷ [];
-    }
-
--- two requests of one priority: the lower id is delivered first
-lowestId : Case
-lowestId =
-    record {
-      before = corePriority 0 127 ∷ corePriority 1 127 ∷ sourcePriority 7 5 ∷ trigger 7 ∷ trigger 5 ∷ [];
-      command = corePriority 0 0;
-      number = 0;
-      id = 0;
-      cycles = 1;
-      currents = 5 ∷ 127 ∷ [];
-      owners = sight 5 (byBox 0) ∷ sight 7 bySource ∷ [];
-    }
-
--- mask answers no id
-maskAnswersNone : Case
-maskAnswersNone =
-    record {
-      before = [];
-      command = Mask (sourceId 4);
-      number = 0;
-      id = 0;
-      cycles = 0;
-      currents = 0 ∷ 0 ∷ [];
-      owners = [];
-    }
-
--- a masked request that waits: unmask delivers it, and answers no id
-unmaskAnswersNone : Case
-unmaskAnswersNone =
-    record {
-      before = Mask (sourceId 4) ∷ trigger 4 ∷ [];
-      command = Unmask (sourceId 4);
-      number = 0;
-      id = 0;
-      cycles = 1;
-      currents = 4 ∷ 0 ∷ [];
-      owners = sight 4 (byBox 0) ∷ [];
-    }
-
--- complete leaves the mask: the next request waits
-maskOutlivesRequest : Case
-maskOutlivesRequest =
-    record {
-      before = trigger 4 ∷ claim 0 ∷ Mask (sourceId 4) ∷ complete 4 ∷ [];
-      command = trigger 4;
-      number = 0;
-      id = 0;
-      cycles = 0;
-      currents = 4 ∷ 0 ∷ [];
-      owners = sight 4 bySource ∷ [];
-    }
-
--- T1 to T12, in the table's order.
+-- T1 to T12, in the table's order: the commands before, the command; number, id, cycles; the current priorities; the owners.
 unfoldable pub marked : List Case
-unfolding t1 t2 t3 t4 t5 t5again t6 t7 t8 t9 t9then t10 t11 t12 sourcePriority corePriority trigger claim redeliver complete sight
-marked = t1 ∷ t2 ∷ t3 ∷ t4 ∷ t5 ∷ t5again ∷ t6 ∷ t7 ∷ t8 ∷ t9 ∷ t9then ∷ t10 ∷ t11 ∷ t12 ∷ []
+unfolding case sourcePriority mask unmask corePriority trigger claim redeliver complete waits inBox taken
+marked =
+    -- T1: source 4 still masked: it is pending and waits
+    case (mask 4 ∷ []) (trigger 4) 0 0 0 0 0 (waits 4 ∷ []) ∷
+    -- T2: core 0's box
+    case [] (trigger 4) 0 0 1 4 0 (inBox 4 0 ∷ []) ∷
+    -- T3
+    case (trigger 4 ∷ []) (trigger 3) 0 0 1 4 3 (inBox 4 0 ∷ inBox 3 1 ∷ []) ∷
+    -- T4: 3 is put back
+    case (trigger 4 ∷ trigger 3 ∷ []) (trigger 5) 0 0 1 4 5 (waits 3 ∷ inBox 4 0 ∷ inBox 5 1 ∷ []) ∷
+    -- T5
+    case (trigger 4 ∷ trigger 3 ∷ trigger 5 ∷ []) (claim 0) 0 4 0 4 5 (taken 4 ∷ inBox 5 1 ∷ waits 3 ∷ []) ∷
+    -- T5, again: the box is empty
+    case (trigger 4 ∷ trigger 3 ∷ trigger 5 ∷ claim 0 ∷ []) (claim 0) 7 0 0 4 5 [] ∷
+    -- T6: 5 lies in a box
+    case (trigger 4 ∷ trigger 3 ∷ trigger 5 ∷ claim 0 ∷ []) (complete 5) 8 0 0 4 5 (inBox 5 1 ∷ []) ∷
+    -- T7: the core's priority stays; 3 waits
+    case (trigger 4 ∷ trigger 3 ∷ trigger 5 ∷ claim 0 ∷ []) (complete 4) 0 0 0 4 5 (waits 3 ∷ inBox 5 1 ∷ []) ∷
+    -- T8: one retraction, two deliveries
+    case (trigger 4 ∷ trigger 3 ∷ trigger 5 ∷ claim 0 ∷ complete 4 ∷ []) (corePriority 0 0) 0 0 3 5 3 (inBox 5 0 ∷ inBox 3 1 ∷ []) ∷
+    -- T9
+    case (corePriority 0 3 ∷ corePriority 1 100 ∷ []) (trigger 4) 0 0 1 4 100 (inBox 4 0 ∷ []) ∷
+    -- T9, then: 002's own example
+    case (corePriority 0 3 ∷ corePriority 1 100 ∷ trigger 4 ∷ []) (corePriority 1 0) 0 0 2 3 4 (inBox 4 1 ∷ []) ∷
+    -- T10: a request of the cores' own priority interrupts nobody
+    case (corePriority 0 4 ∷ corePriority 1 4 ∷ []) (trigger 4) 0 0 0 4 4 (waits 4 ∷ []) ∷
+    -- T11: the box on core 1
+    case (trigger 4 ∷ claim 0 ∷ []) (redeliver 4) 0 0 1 4 4 (inBox 4 1 ∷ []) ∷
+    -- T12
+    case (trigger 4 ∷ []) (trigger 4) 6 0 0 4 0 (inBox 4 0 ∷ []) ∷
+    []
 
 -- Further rows of the table, the rule for a tie between requests, and what mask, unmask and complete leave alone.
 unfoldable pub further : List Case
-unfolding ownPriority topAccepted aboveTop zeroPriority coreZero coreAboveTop sourceFirst noSuchCore maskedInBox maskedRetracted lowestId maskAnswersNone unmaskAnswersNone maskOutlivesRequest sourcePriority corePriority trigger claim redeliver complete sight
-further = ownPriority ∷ topAccepted ∷ aboveTop ∷ zeroPriority ∷ coreZero ∷ coreAboveTop ∷ sourceFirst ∷ noSuchCore ∷ maskedInBox ∷ maskedRetracted ∷ lowestId ∷ maskAnswersNone ∷ unmaskAnswersNone ∷ maskOutlivesRequest ∷ []
+unfolding case sourcePriority mask unmask corePriority trigger claim redeliver complete waits inBox taken
+further =
+    -- T10, then set source 4 to 9: a request keeps its own priority
+    case (corePriority 0 4 ∷ corePriority 1 4 ∷ trigger 4 ∷ []) (sourcePriority 4 9) 0 0 0 4 4 (waits 4 ∷ []) ∷
+    -- source priority 127
+    case [] (sourcePriority 4 127) 0 0 0 0 0 [] ∷
+    -- source priority 128
+    case [] (sourcePriority 4 128) 5 0 0 0 0 [] ∷
+    -- source priority 0
+    case [] (sourcePriority 4 0) 5 0 0 0 0 [] ∷
+    -- core priority 0
+    case [] (corePriority 1 0) 0 0 0 0 0 [] ∷
+    -- core priority 128
+    case [] (corePriority 1 128) 5 0 0 0 0 [] ∷
+    -- id 33 with priority 0: the id is checked first
+    case [] (sourcePriority 33 0) 4 0 0 0 0 [] ∷
+    -- core 2 of two, with a priority above top: the core is checked first
+    case [] (corePriority 2 128) 3 0 0 0 0 [] ∷
+    -- 4 in a box, then masked: it can be claimed
+    case (trigger 4 ∷ mask 4 ∷ []) (claim 0) 0 4 0 4 0 (taken 4 ∷ []) ∷
+    -- 4 in a box, then masked: after any set core priority it waits
+    case (trigger 4 ∷ mask 4 ∷ []) (corePriority 1 0) 0 0 1 0 0 (waits 4 ∷ []) ∷
+    -- two requests of one priority: the lower id is delivered first
+    case (corePriority 0 127 ∷ corePriority 1 127 ∷ sourcePriority 7 5 ∷ trigger 7 ∷ trigger 5 ∷ []) (corePriority 0 0) 0 0 1 5 127 (inBox 5 0 ∷ waits 7 ∷ []) ∷
+    -- mask answers no id
+    case [] (mask 4) 0 0 0 0 0 [] ∷
+    -- a masked request that waits: unmask delivers it, and answers no id
+    case (mask 4 ∷ trigger 4 ∷ []) (unmask 4) 0 0 1 4 0 (inBox 4 0 ∷ []) ∷
+    -- complete leaves the mask: the next request waits
+    case (trigger 4 ∷ claim 0 ∷ mask 4 ∷ complete 4 ∷ []) (trigger 4) 0 0 0 4 0 (waits 4 ∷ []) ∷
+    []

@@ -8,16 +8,21 @@
 use Prim.Native.Nat.{ℕ, _*_}
 use mathlib.Core.List.{List, map}
 use mathlib.Core.Bool.{Bool, true, false, not, cond}
-use lib.ListN.{set}
+use lib.ListN.{getD, set}
 use lib.Dec.{ltb, leb, eqb}
 use Rattle.model.specs.declared.SourceId.{SourceId}
 use Rattle.model.specs.declared.CoreId.{CoreId}
+use Rattle.model.specs.declared.Source.{Source}
 use Rattle.model.specs.declared.Core.{Core}
 use Rattle.model.specs.declared.Controller.{Controller}
 use Rattle.model.specs.declared.Answer.{Answer}
 use Rattle.model.specs.declared.Command.{Command}
-use Rattle.model.specs.declared.Command.the-variants.{SetSourcePriority, Mask, Unmask, SetCorePriority, Trigger, Claim, Redeliver, Complete}
-use Rattle.model.specs.Records.{indexOf, withConfigured, withMask, withDelivered, opened, ended, emptyBox, dirtied, coreWith, sourceAt, coreAt, withCores, withSource, withCore, reset, answer}
+use Rattle.model.specs.declared.Command.the-variants.{OnSource, OnCore}
+use Rattle.model.specs.declared.SourceAction.{SourceAction}
+use Rattle.model.specs.declared.SourceAction.the-variants.{SetSourcePriority, Mask, Unmask, Trigger, Redeliver, Complete}
+use Rattle.model.specs.declared.CoreAction.{CoreAction}
+use Rattle.model.specs.declared.CoreAction.the-variants.{SetCorePriority, Claim}
+use Rattle.model.specs.Records.{indexOf, withConfigured, withMask, withDelivered, opened, ended, emptyBox, dirtied, coreWith, noCore, sourceAt, coreAt, withCores, withSource, reset, answer}
 use Rattle.model.specs.Priorities.{topPriority}
 use Rattle.model.specs.Requests.{claimed}
 use Rattle.lists.specs.Numbers.{between}
@@ -35,16 +40,23 @@ soiled c = coreWith (c .configured) (dirtied (c .message))
 abbrev pub claimedCore : Core → Core
 claimedCore c = coreWith (c .message .priority) emptyBox
 
+-- By the row of the source that a command names.
+abbrev pub sourceAfter : SourceAction → Source → Source
+sourceAfter (SetSourcePriority p) r = withConfigured p r
+sourceAfter Mask r = withMask true r
+sourceAfter Unmask r = withMask false r
+sourceAfter Trigger r = opened r
+sourceAfter Redeliver r = withDelivered false r
+sourceAfter Complete r = ended r
+
+-- By the rows of all cores: set core priority makes every filled box dirty.
+abbrev pub coresAfter : CoreAction → ℕ → List Core → List Core
+coresAfter (SetCorePriority p) k l = map soiled (set l k (coreWith p ((getD l k noCore) .message)))
+coresAfter Claim k l = set l k (claimedCore (getD l k noCore))
+
 unfoldable pub effect : Controller → Command → Controller
-effect s (SetSourcePriority id p) = withSource s (indexOf id) (withConfigured p (sourceAt s (indexOf id)))
-effect s (Mask id) = withSource s (indexOf id) (withMask true (sourceAt s (indexOf id)))
-effect s (Unmask id) = withSource s (indexOf id) (withMask false (sourceAt s (indexOf id)))
-effect s (SetCorePriority k p) =
-    withCores s (map soiled (set (s .cores) (k .0) (coreWith p ((coreAt s (k .0)) .message))))
-effect s (Trigger id) = withSource s (indexOf id) (opened (sourceAt s (indexOf id)))
-effect s (Claim k) = withCore s (k .0) (claimedCore (coreAt s (k .0)))
-effect s (Redeliver id) = withSource s (indexOf id) (withDelivered false (sourceAt s (indexOf id)))
-effect s (Complete id) = withSource s (indexOf id) (ended (sourceAt s (indexOf id)))
+effect s (OnSource id a) = withSource s (indexOf id) (sourceAfter a (sourceAt s (indexOf id)))
+effect s (OnCore k a) = withCores s (coresAfter a (k .0) (s .cores))
 
 -- ---- numbers for no
 
@@ -82,19 +94,24 @@ namesSource s id = between 1 (s .n) (id .0)
 abbrev pub namesCore : Controller → CoreId → Bool
 namesCore s k = ltb (k .0) (s .m)
 
+-- The checks of a source's command after that of its id, which stands at i in the list.
+abbrev pub sourceRefusal : Controller → ℕ → SourceAction → ℕ
+sourceRefusal s i (SetSourcePriority p) = unless (between 1 (topPriority (s .n)) p) badPriority 0
+sourceRefusal s i Mask = 0
+sourceRefusal s i Unmask = 0
+sourceRefusal s i Trigger = unless (not ((sourceAt s i) .pending)) alreadyPending 0
+sourceRefusal s i Redeliver = unless (claimed s i) notClaimed 0
+sourceRefusal s i Complete = unless (claimed s i) notClaimed 0
+
+-- The checks of a core's command after that of its number.
+abbrev pub coreRefusal : Controller → ℕ → CoreAction → ℕ
+coreRefusal s k (SetCorePriority p) = unless (leb p (topPriority (s .n))) badPriority 0
+coreRefusal s k Claim = unless ((coreAt s k) .message .filled) nothingToClaim 0
+
 -- The checks after that of the state.
 unfoldable pub refusalOf : Controller → Command → ℕ
-refusalOf s (SetSourcePriority id p) =
-    unless (namesSource s id) badSource (unless (between 1 (topPriority (s .n)) p) badPriority 0)
-refusalOf s (Mask id) = unless (namesSource s id) badSource 0
-refusalOf s (Unmask id) = unless (namesSource s id) badSource 0
-refusalOf s (SetCorePriority k p) = unless (namesCore s k) badCore (unless (leb p (topPriority (s .n))) badPriority 0)
-refusalOf s (Trigger id) =
-    unless (namesSource s id) badSource (unless (not ((sourceAt s (indexOf id)) .pending)) alreadyPending 0)
-refusalOf s (Claim k) =
-    unless (namesCore s k) badCore (unless ((coreAt s (k .0)) .message .filled) nothingToClaim 0)
-refusalOf s (Redeliver id) = unless (namesSource s id) badSource (unless (claimed s (indexOf id)) notClaimed 0)
-refusalOf s (Complete id) = unless (namesSource s id) badSource (unless (claimed s (indexOf id)) notClaimed 0)
+refusalOf s (OnSource id a) = unless (namesSource s id) badSource (sourceRefusal s (indexOf id) a)
+refusalOf s (OnCore k a) = unless (namesCore s k) badCore (coreRefusal s (k .0) a)
 
 unfoldable pub refusal : Controller → Command → ℕ
 refusal s c = unless (wellFormed s) malformed (refusalOf s c)
@@ -103,23 +120,22 @@ refusal s c = unless (wellFormed s) malformed (refusalOf s c)
 
 -- Only claim answers an id.
 unfoldable pub answeredId : Controller → Command → ℕ
-answeredId s (SetSourcePriority id p) = 0
-answeredId s (Mask id) = 0
-answeredId s (Unmask id) = 0
-answeredId s (SetCorePriority k p) = 0
-answeredId s (Trigger id) = 0
-answeredId s (Claim k) = (coreAt s (k .0)) .message .source .0
-answeredId s (Redeliver id) = 0
-answeredId s (Complete id) = 0
+answeredId s (OnSource id a) = 0
+answeredId s (OnCore k (SetCorePriority p)) = 0
+answeredId s (OnCore k Claim) = (coreAt s (k .0)) .message .source .0
 
 unfoldable pub settled : Controller → ℕ → Answer
 settled s id = answer (settle (2 * s .m) s) 0 id (cyclesOf (2 * s .m) s)
 
-unfoldable pub refused : Controller → ℕ → Answer
-refused s number = answer s number 0 0
+-- What a command that is refused by a number hands back: the state it was given.
+abbrev pub afterRefusal : Controller → Command → ℕ → Controller
+afterRefusal s c number = s
+
+unfoldable pub refused : Controller → Command → ℕ → Answer
+refused s c number = answer (afterRefusal s c number) number 0 0
 
 unfoldable pub execute : Controller → Command → Answer
-execute s c = cond (eqb (refusal s c) 0) (settled (effect s c) (answeredId s c)) (refused s (refusal s c))
+execute s c = cond (eqb (refusal s c) 0) (settled (effect s c) (answeredId s c)) (refused s c (refusal s c))
 
 unfoldable pub make : ℕ → ℕ → Answer
 make n m = cond (sizesInRange n m) (answer (reset n m) 0 0 0) (answer (reset 1 1) badSize 0 0)

@@ -17,7 +17,11 @@ use Rattle.lists.specs.Rows.{gather, row, write}
 use Rattle.model.specs.declared.Controller.{Controller}
 use Rattle.model.specs.declared.Answer.{Answer}
 use Rattle.model.specs.declared.Command.{Command}
-use Rattle.model.specs.declared.Command.the-variants.{SetSourcePriority, Mask, Unmask, SetCorePriority, Trigger, Claim, Redeliver, Complete}
+use Rattle.model.specs.declared.Command.the-variants.{OnSource, OnCore}
+use Rattle.model.specs.declared.SourceAction.{SourceAction}
+use Rattle.model.specs.declared.SourceAction.the-variants.{SetSourcePriority, Mask, Unmask, Trigger, Redeliver, Complete}
+use Rattle.model.specs.declared.CoreAction.{CoreAction}
+use Rattle.model.specs.declared.CoreAction.the-variants.{SetCorePriority, Claim}
 use Rattle.model.specs.Records.{coreAt}
 use Rattle.model.specs.Requests.{currentPriority, boxed}
 use Rattle.lists.specs.Numbers.{between}
@@ -73,17 +77,24 @@ abbrev pub writeRequest : ℕ → Request → Ledger → Ledger
 writeRequest id r b =
     record { core = b .core; configured = b .configured; masked = b .masked; request = write (b .request) id r }
 
--- An accepted command, with the id it answered.
+-- An accepted command on a source.
+abbrev pub postSource : Ledger → ℕ → SourceAction → Ledger
+postSource b id (SetSourcePriority p) = writeConfigured id p b
+postSource b id Mask = writeMask id true b
+postSource b id Unmask = writeMask id false b
+postSource b id Trigger = writeRequest id (openRequest (b .configured id)) b
+postSource b id Redeliver = writeRequest id (openRequest (priorityOf (b .request id))) b
+postSource b id Complete = writeRequest id noRequest b
+
+-- An accepted command on a core, with the id it answered.
+abbrev pub postCore : Ledger → ℕ → CoreAction → ℕ → Ledger
+postCore b k (SetCorePriority p) answered = writeCore k p b
+postCore b k Claim answered =
+    writeCore k (priorityOf (b .request answered)) (writeRequest answered (claimedRequest (priorityOf (b .request answered))) b)
+
 unfoldable pub postAccepted : Ledger → Command → ℕ → Ledger
-postAccepted b (SetSourcePriority id p) answered = writeConfigured (id .0) p b
-postAccepted b (Mask id) answered = writeMask (id .0) true b
-postAccepted b (Unmask id) answered = writeMask (id .0) false b
-postAccepted b (SetCorePriority k p) answered = writeCore (k .0) p b
-postAccepted b (Trigger id) answered = writeRequest (id .0) (openRequest (b .configured (id .0))) b
-postAccepted b (Claim k) answered =
-    writeCore (k .0) (priorityOf (b .request answered)) (writeRequest answered (claimedRequest (priorityOf (b .request answered))) b)
-postAccepted b (Redeliver id) answered = writeRequest (id .0) (openRequest (priorityOf (b .request (id .0)))) b
-postAccepted b (Complete id) answered = writeRequest (id .0) noRequest b
+postAccepted b (OnSource id a) answered = postSource b (id .0) a
+postAccepted b (OnCore k a) answered = postCore b (k .0) a answered
 
 -- A command answering a number other than 0 changes nothing.
 unfoldable pub post : Ledger → Entry → Ledger

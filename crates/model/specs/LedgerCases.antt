@@ -9,7 +9,9 @@ use mathlib.Core.Bool.{Bool, true, false, not, _&&_, cond, Bool·beq}
 use lib.Dec.{eqb}
 use Rattle.model.specs.declared.Controller.{Controller}
 use Rattle.model.specs.declared.Command.{Command}
-use Rattle.model.specs.declared.Command.the-variants.{SetSourcePriority, Mask, Unmask, SetCorePriority, Trigger, Claim, Redeliver, Complete}
+use Rattle.model.specs.declared.Command.the-variants.{OnSource, OnCore}
+use Rattle.model.specs.declared.SourceAction.the-variants.{SetSourcePriority, Mask, Unmask, Trigger, Redeliver, Complete}
+use Rattle.model.specs.declared.CoreAction.the-variants.{SetCorePriority, Claim}
 use Rattle.model.specs.Records.{sourceId, coreId, holding, coreWith, withCore, reset}
 use Rattle.model.specs.Ledger.{Request, noRequest, openRequest, claimedRequest, Ledger, Entry, opening, ledger, competes, collection, Placement, given, inBoxes}
 use Rattle.lists.specs.Rows.{row}
@@ -25,29 +27,29 @@ abbrev accepted : Command → Entry
 accepted c = refusedBy 0 c
 
 abbrev sourcePriority : ℕ → ℕ → Entry
-sourcePriority id p = accepted (SetSourcePriority (sourceId id) p)
+sourcePriority id p = accepted (OnSource (sourceId id) (SetSourcePriority p))
 
 abbrev mask : ℕ → Entry
-mask id = accepted (Mask (sourceId id))
+mask id = accepted (OnSource (sourceId id) Mask)
 
 abbrev unmask : ℕ → Entry
-unmask id = accepted (Unmask (sourceId id))
+unmask id = accepted (OnSource (sourceId id) Unmask)
 
 abbrev corePriority : ℕ → ℕ → Entry
-corePriority k p = accepted (SetCorePriority (coreId k) p)
+corePriority k p = accepted (OnCore (coreId k) (SetCorePriority p))
 
 abbrev trigger : ℕ → Entry
-trigger id = accepted (Trigger (sourceId id))
+trigger id = accepted (OnSource (sourceId id) Trigger)
 
 -- The claim of core k that answered an id.
 abbrev claim : ℕ → ℕ → Entry
-claim k id = record { command = Claim (coreId k); number = 0; id = id }
+claim k id = record { command = OnCore (coreId k) Claim; number = 0; id = id }
 
 abbrev redeliver : ℕ → Entry
-redeliver id = accepted (Redeliver (sourceId id))
+redeliver id = accepted (OnSource (sourceId id) Redeliver)
 
 abbrev complete : ℕ → Entry
-complete id = accepted (Complete (sourceId id))
+complete id = accepted (OnSource (sourceId id) Complete)
 
 -- ---- pages
 
@@ -109,14 +111,14 @@ masked = pair true true
 unfoldable pub pages : List Page
 pages =
     page [] (pair 0 0) (pair 1 1) masked idle ∷
-    page (refusedBy 5 (SetSourcePriority (sourceId 2) 9) ∷ []) (pair 0 0) (pair 1 1) masked idle ∷
+    page (refusedBy 5 (OnSource (sourceId 2) (SetSourcePriority 9)) ∷ []) (pair 0 0) (pair 1 1) masked idle ∷
     page (sourcePriority 2 5 ∷ []) (pair 0 0) (pair 1 5) masked idle ∷
     page (corePriority 1 4 ∷ []) (pair 0 4) (pair 1 1) masked idle ∷
     page (unmask 2 ∷ []) (pair 0 0) (pair 1 1) (pair true false) idle ∷
     page (unmask 2 ∷ mask 2 ∷ []) (pair 0 0) (pair 1 1) masked idle ∷
     page opened (pair 0 0) (pair 1 6) masked (pair noRequest (openRequest 5)) ∷
     page taken (pair 0 5) (pair 1 6) masked (pair noRequest (claimedRequest 5)) ∷
-    page (taken ++ (refusedBy 6 (Trigger (sourceId 2)) ∷ [])) (pair 0 5) (pair 1 6) masked (pair noRequest (claimedRequest 5)) ∷
+    page (taken ++ (refusedBy 6 (OnSource (sourceId 2) Trigger) ∷ [])) (pair 0 5) (pair 1 6) masked (pair noRequest (claimedRequest 5)) ∷
     page (taken ++ (redeliver 2 ∷ [])) (pair 0 5) (pair 1 6) masked (pair noRequest (openRequest 5)) ∷
     page (taken ++ (complete 2 ∷ [])) (pair 0 5) (pair 1 6) masked idle ∷ []
 

@@ -13,11 +13,6 @@
 --   Cases         the worked cases of document 01's table of runs
 --   StateCases    worked states: fresh, broken beside sound, and with dirty boxes
 --   LedgerCases   worked pages of the ledger, a collection, placements
---   Encoding      a command as numbers
---   Borrowed      the two calls on records that the host lends
---   LentCases     worked cases of these two calls
---   Bytes         a state, commands and answers as bytes
---   BytesCases    worked cases of them
 pub mod Records
 pub mod Priorities
 pub mod Requests
@@ -31,8 +26,3 @@ pub mod Statements
 pub mod Cases
 pub mod StateCases
 pub mod LedgerCases
-pub mod Encoding
-pub mod Borrowed
-pub mod LentCases
-pub mod Bytes
-pub mod BytesCases

@@ -15,7 +15,9 @@ use Rattle.model.specs.declared.Core.{Core}
 use Rattle.model.specs.declared.Controller.{Controller}
 use Rattle.model.specs.declared.Cycle.{Cycle}
 use Rattle.model.specs.declared.Cycle.the-variants.{Rest, Retract, Deliver}
-use Rattle.model.specs.declared.Command.the-variants.{Mask, SetCorePriority}
+use Rattle.model.specs.declared.Command.the-variants.{OnSource, OnCore}
+use Rattle.model.specs.declared.SourceAction.the-variants.{Mask}
+use Rattle.model.specs.declared.CoreAction.the-variants.{SetCorePriority}
 use Rattle.model.specs.Records.{sourceId, coreId, sourceWith, resetSource, boxWith, emptyBox, coreWith, resetCore, sourceAt, coreAt, withSources, withCores, withSource, withCore, reset}
 use Rattle.lists.specs.Walks.{every}
 use Rattle.model.specs.WellFormed.{backedBy, sizesInRange, listsWhole, sourcesInRange, coresInRange, sparesReset, boxesBacked, boxesDistinct, boxesClean, candidatesSettled, coveredSettled, wellFormed}
@@ -85,7 +87,7 @@ pub record StateCase : Type 0 where
 
 -- What mask of source 1 answers: 0 on every sound state.
 abbrev pub numberOn : Controller → ℕ
-numberOn s = (execute s (Mask (sourceId 1))) .number
+numberOn s = (execute s (OnSource (sourceId 1) Mask)) .number
 
 unfoldable pub toldApart : StateCase → Bool
 toldApart c =
@@ -253,7 +255,7 @@ fresh =
 
 -- Requests in both boxes, and set core priority: both boxes are dirty.
 abbrev bothDirty : Controller
-bothDirty = effect (withCore calm 1 (holdsAt 2 2 3)) (SetCorePriority (coreId 1) 0)
+bothDirty = effect (withCore calm 1 (holdsAt 2 2 3)) (OnCore (coreId 1) (SetCorePriority 0))
 
 abbrev retracts : ℕ → Cycle → Bool
 retracts k Rest = false

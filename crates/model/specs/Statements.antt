@@ -7,23 +7,28 @@ use mathlib.Core.Logic.{_↔_, _≢_}
 use mathlib.Core.List.{List}
 use mathlib.Core.Bool.{Bool, true, false, not, _||_, cond}
 use lib.ListN.{getD, take}
-use lib.Dec.{ltb, leb, eqb}
+use lib.Dec.{eqb}
 use Rattle.model.specs.WellFormed.{Quiet, quiet, Clean, boxesClean, Consistent, consistent, wellFormed, WellFormed}
 use Rattle.lists.specs.Walks.{FirstOf, comparisons}
 use Rattle.model.specs.declared.Source.{Source}
+use Rattle.model.specs.declared.SourceId.{SourceId}
 use Rattle.model.specs.declared.CoreId.{CoreId}
 use Rattle.model.specs.declared.Core.{Core}
 use Rattle.model.specs.declared.Controller.{Controller}
 use Rattle.model.specs.declared.Answer.{Answer}
 use Rattle.model.specs.declared.Cycle.the-variants.{Rest}
 use Rattle.model.specs.declared.Command.{Command}
-use Rattle.model.specs.declared.Command.the-variants.{SetSourcePriority, Mask, Unmask, SetCorePriority, Trigger, Claim, Redeliver, Complete}
+use Rattle.model.specs.declared.Command.the-variants.{OnSource, OnCore}
+use Rattle.model.specs.declared.SourceAction.{SourceAction}
+use Rattle.model.specs.declared.SourceAction.the-variants.{SetSourcePriority, Mask, Unmask, Trigger, Redeliver, Complete}
+use Rattle.model.specs.declared.CoreAction.{CoreAction}
+use Rattle.model.specs.declared.CoreAction.the-variants.{SetCorePriority, Claim}
 use Rattle.model.specs.Records.{maxSources, maxCores, noSource, sourceId, indexOf, sourceWith, boxWith, coreWith, sourceAt, coreAt, bare, reset, answer}
 use Rattle.model.specs.Priorities.{floorLog2, topPriority}
 use Rattle.model.specs.Requests.{currentPriority, candidate, claimed, Owner, Owns}
 use Rattle.model.specs.Arbitration.{higher, highest, highestByWalk, highestId, lower, least}
 use Rattle.model.specs.Settling.{next, settle, isRetraction, isDelivery, countOf, cyclesOf}
-use Rattle.model.specs.Commands.{effect, refusal, execute, make}
+use Rattle.model.specs.Commands.{effect, malformed, badCore, badSource, badPriority, alreadyPending, nothingToClaim, notClaimed, refusal, afterRefusal, execute, make}
 use Rattle.model.specs.Ledger.{Ledger, opening, ledger, collection, Placement, given, inBoxes, requestPriority, currentPriorities, entriesBy}
 use Rattle.lists.specs.Rows.{row}
 use Rattle.lists.specs.Sorting.{sortDown}
@@ -76,7 +81,8 @@ WellFormedKept = (s : Controller) (c : Command) → WellFormed s → WellFormed 
 pub record AtRest (s : Controller) : Type 0 where
   pub rests : next s ≡ Rest
   pub clean : (k : ℕ) → k < s .m → (coreAt s k) .message .dirty ≡ false
-  pub none-above : (i k : ℕ) → i < s .n → k < s .m → candidate (sourceAt s i) ≡ true → (sourceAt s i) .priority ≤ currentPriority (coreAt s k)
+  pub none-above :
+      (i k : ℕ) → i < s .n → k < s .m → candidate (sourceAt s i) ≡ true → (sourceAt s i) .priority ≤ currentPriority (coreAt s k)
 
 -- The answer a to a command whose effect is e, on m cores, held against f cycles of settling: it has the state and the count that they
 -- give, that state is at rest, and at most m of the cycles are retractions and at most m deliveries.
@@ -111,8 +117,12 @@ LeastIsFirst = (l : List Core) (m : ℕ) → 1 ≤ m → FirstOf (lower l) m (le
 pub record HighestCandidate (l : List Source) (n : ℕ) : Type 0 where
   pub none : highestId l n ≡ 0 → (i : ℕ) → i < n → candidate (getD l i noSource) ≡ false
   pub inside : (w : ℕ) → highestId l n ≡ suc w → (w < n) × (candidate (getD l w noSource) ≡ true)
-  pub highest : (w i : ℕ) → highestId l n ≡ suc w → i < n → candidate (getD l i noSource) ≡ true → (getD l i noSource) .priority ≤ (getD l w noSource) .priority
-  pub lowest-id : (w i : ℕ) → highestId l n ≡ suc w → i < w → candidate (getD l i noSource) ≡ true → (getD l i noSource) .priority < (getD l w noSource) .priority
+  pub highest :
+      (w i : ℕ) → highestId l n ≡ suc w → i < n → candidate (getD l i noSource) ≡ true →
+      (getD l i noSource) .priority ≤ (getD l w noSource) .priority
+  pub lowest-id :
+      (w i : ℕ) → highestId l n ≡ suc w → i < w → candidate (getD l i noSource) ≡ true →
+      (getD l i noSource) .priority < (getD l w noSource) .priority
 
 abbrev pub HighestIdExact : Type 0
 HighestIdExact = (l : List Source) (n : ℕ) → 1 ≤ n → HighestCandidate l n
@@ -132,40 +142,6 @@ OneOwner =
     (s : Controller) → WellFormed s → (i : ℕ) → i < s .n →
     ((sourceAt s i) .pending ≡ true → (o : Owner) × Owns s i o × ((o′ : Owner) → Owns s i o′ → o′ ≡ o)) ×
     ((o : Owner) → Owns s i o → (sourceAt s i) .pending ≡ true)
-
--- The pending flag of source i + 1 after an accepted command, from the flag before.
-abbrev pub pendingAfter : Command → ℕ → Bool → Bool
-pendingAfter (SetSourcePriority id p) i b = b
-pendingAfter (Mask id) i b = b
-pendingAfter (Unmask id) i b = b
-pendingAfter (SetCorePriority k p) i b = b
-pendingAfter (Trigger id) i b = cond (eqb (id .0) (suc i)) true b
-pendingAfter (Claim k) i b = b
-pendingAfter (Redeliver id) i b = b
-pendingAfter (Complete id) i b = cond (eqb (id .0) (suc i)) false b
-
--- A request stays pending from its own accepted trigger to its own accepted complete.
-abbrev pub PendingChanges : Type 0
-PendingChanges =
-    (s : Controller) (c : Command) (i : ℕ) →
-    (sourceAt ((execute s c) .state) i) .pending ≡ cond (eqb (refusal s c) 0) (pendingAfter c i ((sourceAt s i) .pending)) ((sourceAt s i) .pending)
-
--- The configured priority of core k after an accepted command.
-abbrev pub configuredAfter : Controller → Command → ℕ → ℕ
-configuredAfter s (SetSourcePriority id p) k = (coreAt s k) .configured
-configuredAfter s (Mask id) k = (coreAt s k) .configured
-configuredAfter s (Unmask id) k = (coreAt s k) .configured
-configuredAfter s (SetCorePriority j p) k = cond (eqb (j .0) k) p ((coreAt s k) .configured)
-configuredAfter s (Trigger id) k = (coreAt s k) .configured
-configuredAfter s (Claim j) k = cond (eqb (j .0) k) ((coreAt s k) .message .priority) ((coreAt s k) .configured)
-configuredAfter s (Redeliver id) k = (coreAt s k) .configured
-configuredAfter s (Complete id) k = (coreAt s k) .configured
-
--- Only an accepted claim or set core priority on a core changes that core's configured priority.
-abbrev pub ConfiguredChanges : Type 0
-ConfiguredChanges =
-    (s : Controller) (c : Command) (k : ℕ) →
-    (coreAt ((execute s c) .state) k) .configured ≡ cond (eqb (refusal s c) 0) (configuredAfter s c k) ((coreAt s k) .configured)
 
 -- ---- the rows of "Eight commands", field by field
 
@@ -198,37 +174,36 @@ coreBy configured filled dirty id priority c =
     (sourceId (changed id (c .message .source .0)))
     (changed priority (c .message .priority)))
 
--- Source id's record r after a command and before settling.
-abbrev pub sourceAfter : Command → ℕ → Source → Source
-sourceAfter (SetSourcePriority x p) id r = cond (eqb (x .0) id) (sourceBy (becomes p) keep keep keep keep r) r
-sourceAfter (Mask x) id r = cond (eqb (x .0) id) (sourceBy keep (becomes true) keep keep keep r) r
-sourceAfter (Unmask x) id r = cond (eqb (x .0) id) (sourceBy keep (becomes false) keep keep keep r) r
-sourceAfter (SetCorePriority j p) id r = r
-sourceAfter (Trigger x) id r =
-    cond (eqb (x .0) id) (sourceBy keep keep (becomes true) (becomes false) (becomes (r .configured)) r) r
-sourceAfter (Claim j) id r = r
-sourceAfter (Redeliver x) id r = cond (eqb (x .0) id) (sourceBy keep keep keep (becomes false) keep r) r
-sourceAfter (Complete x) id r =
-    cond (eqb (x .0) id) (sourceBy keep keep (becomes false) (becomes false) (becomes 0) r) r
+-- The row of a command on a source, for that source.
+abbrev pub sourceRow : SourceAction → Source → Source
+sourceRow (SetSourcePriority p) r = sourceBy (becomes p) keep keep keep keep r
+sourceRow Mask r = sourceBy keep (becomes true) keep keep keep r
+sourceRow Unmask r = sourceBy keep (becomes false) keep keep keep r
+sourceRow Trigger r = sourceBy keep keep (becomes true) (becomes false) (becomes (r .configured)) r
+sourceRow Redeliver r = sourceBy keep keep keep (becomes false) keep r
+sourceRow Complete r = sourceBy keep keep (becomes false) (becomes false) (becomes 0) r
 
--- Core k's record c; set core priority makes every filled box dirty.
-abbrev pub coreAfter : Command → ℕ → Core → Core
-coreAfter (SetSourcePriority x p) k c = c
-coreAfter (Mask x) k c = c
-coreAfter (Unmask x) k c = c
-coreAfter (SetCorePriority j p) k c =
-    coreBy (cond (eqb (j .0) k) (becomes p) keep) keep (cond (c .message .filled) (becomes true) keep) keep keep c
-coreAfter (Trigger x) k c = c
-coreAfter (Claim j) k c =
-    cond (eqb (j .0) k) (coreBy (becomes (c .message .priority)) (becomes false) (becomes false) (becomes 0) (becomes 0) c) c
-coreAfter (Redeliver x) k c = c
-coreAfter (Complete x) k c = c
+-- The row of a command on a core, for any core; named: it is the one that the command names.
+abbrev pub coreRow : CoreAction → Bool → Core → Core
+coreRow (SetCorePriority p) named c =
+    coreBy (cond named (becomes p) keep) keep (cond (c .message .filled) (becomes true) keep) keep keep c
+coreRow Claim named c =
+    cond named (coreBy (becomes (c .message .priority)) (becomes false) (becomes false) (becomes 0) (becomes 0) c) c
+
+-- Source id's record r after a command and before settling, and core k's record c.
+abbrev pub sourceIn : Command → ℕ → Source → Source
+sourceIn (OnSource x a) id r = cond (eqb (x .0) id) (sourceRow a r) r
+sourceIn (OnCore j a) id r = r
+
+abbrev pub coreIn : Command → ℕ → Core → Core
+coreIn (OnSource x a) k c = c
+coreIn (OnCore j a) k c = coreRow a (eqb (j .0) k) c
 
 -- Before settling a command changes just the fields of its row; settling then changes just boxes and delivered marks.
 pub record RowMet (s : Controller) (c : Command) : Type 0 where
   pub sizes : ((effect s c) .n ≡ s .n) × ((effect s c) .m ≡ s .m)
-  pub sources : (i : ℕ) → sourceAt (effect s c) i ≡ sourceAfter c (suc i) (sourceAt s i)
-  pub cores : (k : ℕ) → coreAt (effect s c) k ≡ coreAfter c k (coreAt s k)
+  pub sources : (i : ℕ) → sourceAt (effect s c) i ≡ sourceIn c (suc i) (sourceAt s i)
+  pub cores : (k : ℕ) → coreAt (effect s c) k ≡ coreIn c k (coreAt s k)
   pub settled : bare ((execute s c) .state) ≡ bare (effect s c)
 
 abbrev pub RowsMet : Type 0
@@ -238,13 +213,25 @@ RowsMet = (s : Controller) (c : Command) → refusal s c ≡ 0 → RowMet s c
 abbrev pub SettlingLeavesBare : Type 0
 SettlingLeavesBare = (f : ℕ) (s : Controller) → bare (settle f s) ≡ bare s
 
+-- A request stays pending from its own accepted trigger to its own accepted complete: no other row has that column.
+abbrev pub PendingChanges : Type 0
+PendingChanges =
+    (s : Controller) (c : Command) (i : ℕ) →
+    (sourceAt ((execute s c) .state) i) .pending ≡ cond (eqb (refusal s c) 0) ((sourceIn c (suc i) (sourceAt s i)) .pending) ((sourceAt s i) .pending)
+
+-- Only an accepted claim or set core priority on a core changes that core's configured priority.
+abbrev pub ConfiguredChanges : Type 0
+ConfiguredChanges =
+    (s : Controller) (c : Command) (k : ℕ) →
+    (coreAt ((execute s c) .state) k) .configured ≡ cond (eqb (refusal s c) 0) ((coreIn c k (coreAt s k)) .configured) ((coreAt s k) .configured)
+
 -- What answers an id is a claim, and an accepted claim answers that of the box.
 abbrev pub OnlyClaimAnswers : Type 0
-OnlyClaimAnswers = (s : Controller) (c : Command) → (execute s c) .id .0 ≢ 0 → (k : CoreId) × (c ≡ Claim k)
+OnlyClaimAnswers = (s : Controller) (c : Command) → (execute s c) .id .0 ≢ 0 → (k : CoreId) × (c ≡ OnCore k Claim)
 
 abbrev pub ClaimAnswersBox : Type 0
 ClaimAnswersBox =
-    (s : Controller) (k : CoreId) → refusal s (Claim k) ≡ 0 → (execute s (Claim k)) .id ≡ (coreAt s (k .0)) .message .source
+    (s : Controller) (k : CoreId) → refusal s (OnCore k Claim) ≡ 0 → (execute s (OnCore k Claim)) .id ≡ (coreAt s (k .0)) .message .source
 
 -- ---- demand 2
 
@@ -263,11 +250,14 @@ pub record PriorityStrict (n m : ℕ) (b : Ledger) (s : Controller) : Type 0 whe
   pub top-m : sortDown (currentPriorities m s) ≡ take m (sortDown (collection n m b s))
   -- the filled boxes are a placement, each with the priority of the request it places
   pub boxes-placed : Placement n m b s (inBoxes s)
-  pub box-priority : (k : ℕ) → k < m → (coreAt s k) .message .filled ≡ true → (1 ≤ (coreAt s k) .message .source .0) × ((coreAt s k) .message .priority ≡ requestPriority b ((coreAt s k) .message .source .0))
+  pub box-priority :
+      (k : ℕ) → k < m → (coreAt s k) .message .filled ≡ true →
+      (1 ≤ (coreAt s k) .message .source .0) × ((coreAt s k) .message .priority ≡ requestPriority b ((coreAt s k) .message .source .0))
   -- each core's current priority is what that placement gives it: by its box, else by the ledger's configured priority
   pub current-given : (k : ℕ) → k < m → currentPriority (coreAt s k) ≡ given b (inBoxes s) k
   -- no placement is higher at any place
-  pub none-higher : (P : ℕ → ℕ) → Placement n m b s P → (j : ℕ) → getD (sortDown (row m (given b P))) j 0 ≤ getD (sortDown (currentPriorities m s)) j 0
+  pub none-higher :
+      (P : ℕ → ℕ) → Placement n m b s P → (j : ℕ) → getD (sortDown (row m (given b P))) j 0 ≤ getD (sortDown (currentPriorities m s)) j 0
 
 -- After every list of commands, of any length and with any arguments, refused ones included, from a fresh controller of any size in range.
 abbrev pub EveryListStrict : Behaviour → Type 0
@@ -283,90 +273,26 @@ pub record DemandThree : Type 0 where
 
 -- ---- refusals
 
--- The rows of "Numbers for no", each as its own condition on a command.
--- Row 3: core is m or above.
-abbrev pub coreOutOfRange : Controller → Command → Bool
-coreOutOfRange s (SetSourcePriority id p) = false
-coreOutOfRange s (Mask id) = false
-coreOutOfRange s (Unmask id) = false
-coreOutOfRange s (SetCorePriority k p) = leb (s .m) (k .0)
-coreOutOfRange s (Trigger id) = false
-coreOutOfRange s (Claim k) = leb (s .m) (k .0)
-coreOutOfRange s (Redeliver id) = false
-coreOutOfRange s (Complete id) = false
+-- The lines of "Numbers for no" that a command can meet, each with its number.
+pub data Row (s : Controller) : Command → ℕ → Type 0 where
+  not-sound : {c : Command} → ¬ WellFormed s → Row s c malformed
+  no-core : {k : CoreId} {a : CoreAction} → s .m ≤ k .0 → Row s (OnCore k a) badCore
+  no-source : {id : SourceId} {a : SourceAction} → ¬ ((1 ≤ id .0) × (id .0 ≤ s .n)) → Row s (OnSource id a) badSource
+  source-priority : {id : SourceId} {p : ℕ} → ¬ ((1 ≤ p) × (p ≤ topPriority (s .n))) → Row s (OnSource id (SetSourcePriority p)) badPriority
+  core-priority : {k : CoreId} {p : ℕ} → topPriority (s .n) < p → Row s (OnCore k (SetCorePriority p)) badPriority
+  is-pending : {id : SourceId} → (sourceAt s (indexOf id)) .pending ≡ true → Row s (OnSource id Trigger) alreadyPending
+  empty-box : {k : CoreId} → (coreAt s (k .0)) .message .filled ≡ false → Row s (OnCore k Claim) nothingToClaim
+  not-redelivered : {id : SourceId} → claimed s (indexOf id) ≡ false → Row s (OnSource id Redeliver) notClaimed
+  not-completed : {id : SourceId} → claimed s (indexOf id) ≡ false → Row s (OnSource id Complete) notClaimed
 
--- Row 4: id is 0 or above n.
-abbrev pub sourceOutOfRange : Controller → Command → Bool
-sourceOutOfRange s (SetSourcePriority id p) = eqb (id .0) 0 || ltb (s .n) (id .0)
-sourceOutOfRange s (Mask id) = eqb (id .0) 0 || ltb (s .n) (id .0)
-sourceOutOfRange s (Unmask id) = eqb (id .0) 0 || ltb (s .n) (id .0)
-sourceOutOfRange s (SetCorePriority k p) = false
-sourceOutOfRange s (Trigger id) = eqb (id .0) 0 || ltb (s .n) (id .0)
-sourceOutOfRange s (Claim k) = false
-sourceOutOfRange s (Redeliver id) = eqb (id .0) 0 || ltb (s .n) (id .0)
-sourceOutOfRange s (Complete id) = eqb (id .0) 0 || ltb (s .n) (id .0)
+-- "Order: 1, then 3 or 4, then 5, then 6, 7 or 8."
+abbrev pub turn : ℕ → ℕ
+turn number = cond (eqb number 1) 1 (cond (eqb number 3 || eqb number 4) 2 (cond (eqb number 5) 3 4))
 
--- Row 5: source priority 0 or above top; core priority above top.
-abbrev pub priorityOutOfRange : Controller → Command → Bool
-priorityOutOfRange s (SetSourcePriority id p) = eqb p 0 || ltb (topPriority (s .n)) p
-priorityOutOfRange s (Mask id) = false
-priorityOutOfRange s (Unmask id) = false
-priorityOutOfRange s (SetCorePriority k p) = ltb (topPriority (s .n)) p
-priorityOutOfRange s (Trigger id) = false
-priorityOutOfRange s (Claim k) = false
-priorityOutOfRange s (Redeliver id) = false
-priorityOutOfRange s (Complete id) = false
-
--- Row 6: trigger of a pending source.
-abbrev pub triggersPending : Controller → Command → Bool
-triggersPending s (SetSourcePriority id p) = false
-triggersPending s (Mask id) = false
-triggersPending s (Unmask id) = false
-triggersPending s (SetCorePriority k p) = false
-triggersPending s (Trigger id) = (sourceAt s (indexOf id)) .pending
-triggersPending s (Claim k) = false
-triggersPending s (Redeliver id) = false
-triggersPending s (Complete id) = false
-
--- Row 7: claim on an empty box.
-abbrev pub claimsEmpty : Controller → Command → Bool
-claimsEmpty s (SetSourcePriority id p) = false
-claimsEmpty s (Mask id) = false
-claimsEmpty s (Unmask id) = false
-claimsEmpty s (SetCorePriority k p) = false
-claimsEmpty s (Trigger id) = false
-claimsEmpty s (Claim k) = not ((coreAt s (k .0)) .message .filled)
-claimsEmpty s (Redeliver id) = false
-claimsEmpty s (Complete id) = false
-
--- Row 8: redeliver or complete of a request that isn't claimed.
-abbrev pub actsOnUnclaimed : Controller → Command → Bool
-actsOnUnclaimed s (SetSourcePriority id p) = false
-actsOnUnclaimed s (Mask id) = false
-actsOnUnclaimed s (Unmask id) = false
-actsOnUnclaimed s (SetCorePriority k p) = false
-actsOnUnclaimed s (Trigger id) = false
-actsOnUnclaimed s (Claim k) = false
-actsOnUnclaimed s (Redeliver id) = not (claimed s (indexOf id))
-actsOnUnclaimed s (Complete id) = not (claimed s (indexOf id))
-
--- Neither row 3 nor row 4.
-abbrev pub InPlace : Controller → Command → Type 0
-InPlace s c = (coreOutOfRange s c ≡ false) × (sourceOutOfRange s c ≡ false)
-
--- Each number is given exactly when its row says, no earlier check refusing. The order: 1, then 3 or 4, then 5, then 6, 7 or 8.
+-- "Given exactly when, no earlier check refusing"; accepted exactly when no line is met.
 pub record Refusals (number : ℕ) (s : Controller) (c : Command) : Type 0 where
-  pub one : (number ≡ 1) ↔ (¬ WellFormed s)
-  pub three : (number ≡ 3) ↔ (WellFormed s × (coreOutOfRange s c ≡ true))
-  pub four : (number ≡ 4) ↔ (WellFormed s × (sourceOutOfRange s c ≡ true))
-  pub five : (number ≡ 5) ↔ (WellFormed s × InPlace s c × (priorityOutOfRange s c ≡ true))
-  pub six : (number ≡ 6) ↔ (WellFormed s × InPlace s c × (priorityOutOfRange s c ≡ false) × (triggersPending s c ≡ true))
-  pub seven : (number ≡ 7) ↔ (WellFormed s × InPlace s c × (priorityOutOfRange s c ≡ false) × (claimsEmpty s c ≡ true))
-  pub eight : (number ≡ 8) ↔ (WellFormed s × InPlace s c × (priorityOutOfRange s c ≡ false) × (actsOnUnclaimed s c ≡ true))
-  -- success, and no other number
-  pub zero : (number ≡ 0) ↔ (WellFormed s × InPlace s c × (priorityOutOfRange s c ≡ false) × (triggersPending s c ≡ false) × (claimsEmpty s c ≡ false) × (actsOnUnclaimed s c ≡ false))
-  pub never-two : number ≢ 2
-  pub at-most-eight : number ≤ 8
+  pub given : (k : ℕ) → 1 ≤ k → (number ≡ k) ↔ (Row s c k × ((j : ℕ) → Row s c j → turn k ≤ turn j))
+  pub accepted : (number ≡ 0) ↔ ((k : ℕ) → ¬ Row s c k)
 
 abbrev pub RefusalsExact : Behaviour → Type 0
 RefusalsExact x = (s : Controller) (c : Command) → Refusals ((x s c) .number) s c
@@ -377,4 +303,5 @@ RefusalAnswered = (s : Controller) (c : Command) → (execute s c) .number ≡ r
 
 -- A refused command hands back the state given, id 0 and 0 cycles.
 abbrev pub RefusedUnchanged : Behaviour → Type 0
-RefusedUnchanged x = (s : Controller) (c : Command) → (x s c) .number ≢ 0 → x s c ≡ answer s ((x s c) .number) 0 0
+RefusedUnchanged x =
+    (s : Controller) (c : Command) → (x s c) .number ≢ 0 → x s c ≡ answer (afterRefusal s c ((x s c) .number)) ((x s c) .number) 0 0

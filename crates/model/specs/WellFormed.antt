@@ -132,21 +132,27 @@ pub record Consistent (s : Controller) : Type 0 where
   pub sources-length : length (s .sources) ≡ maxSources
   pub cores-length : length (s .cores) ≡ maxCores
   pub configured-source : (i : ℕ) → i < s .n → (1 ≤ (sourceAt s i) .configured) × ((sourceAt s i) .configured ≤ topPriority (s .n))
-  pub request-range : (i : ℕ) → i < s .n → (sourceAt s i) .pending ≡ true → (1 ≤ (sourceAt s i) .priority) × ((sourceAt s i) .priority ≤ topPriority (s .n))
-  pub idle-source : (i : ℕ) → i < s .n → (sourceAt s i) .pending ≡ false → ((sourceAt s i) .delivered ≡ false) × ((sourceAt s i) .priority ≡ 0)
+  pub request-range :
+      (i : ℕ) → i < s .n → (sourceAt s i) .pending ≡ true → (1 ≤ (sourceAt s i) .priority) × ((sourceAt s i) .priority ≤ topPriority (s .n))
+  pub idle-source :
+      (i : ℕ) → i < s .n → (sourceAt s i) .pending ≡ false → ((sourceAt s i) .delivered ≡ false) × ((sourceAt s i) .priority ≡ 0)
   pub configured-core : (k : ℕ) → k < s .m → (coreAt s k) .configured ≤ topPriority (s .n)
   pub empty-box : (k : ℕ) → k < s .m → (coreAt s k) .message .filled ≡ false → (coreAt s k) .message ≡ emptyBox
   pub spare-source : (i : ℕ) → s .n ≤ i → i < maxSources → sourceAt s i ≡ resetSource
   pub spare-core : (k : ℕ) → s .m ≤ k → k < maxCores → coreAt s k ≡ resetCore
   pub backed : (k : ℕ) → k < s .m → (coreAt s k) .message .filled ≡ true → Holding s (coreAt s k)
-  pub distinct : (j k : ℕ) → j < s .m → k < s .m → (coreAt s j) .message .filled ≡ true → (coreAt s k) .message .filled ≡ true → (coreAt s j) .message .source .0 ≡ (coreAt s k) .message .source .0 → j ≡ k
+  pub distinct :
+      (j k : ℕ) → j < s .m → k < s .m → (coreAt s j) .message .filled ≡ true → (coreAt s k) .message .filled ≡ true →
+      (coreAt s j) .message .source .0 ≡ (coreAt s k) .message .source .0 → j ≡ k
 
 abbrev pub Clean : Controller → Type 0
 Clean s = (k : ℕ) → k < s .m → (coreAt s k) .message .dirty ≡ false
 
 pub record Quiet (s : Controller) : Type 0 where
-  pub candidates-settled : (i k : ℕ) → i < s .n → k < s .m → candidate (sourceAt s i) ≡ true → (sourceAt s i) .priority ≤ currentPriority (coreAt s k)
-  pub covered-settled : (j k : ℕ) → j < s .m → k < s .m → (coreAt s j) .message .filled ≡ true → (coreAt s j) .configured ≤ currentPriority (coreAt s k)
+  pub candidates-settled :
+      (i k : ℕ) → i < s .n → k < s .m → candidate (sourceAt s i) ≡ true → (sourceAt s i) .priority ≤ currentPriority (coreAt s k)
+  pub covered-settled :
+      (j k : ℕ) → j < s .m → k < s .m → (coreAt s j) .message .filled ≡ true → (coreAt s j) .configured ≤ currentPriority (coreAt s k)
 
 pub record WellFormed (s : Controller) : Type 0 where
   pub consistent : Consistent s

@@ -53,16 +53,26 @@ pub struct Controller {
     pub cores: [Core; CORES],
 }
 
-// The eight commands, in the order of document 01's numbers 0 to 7 for them.
+// What a command does to a source.
+pub enum SourceAction {
+    SetSourcePriority(u16),
+    Mask,
+    Unmask,
+    Trigger,
+    Redeliver,
+    Complete,
+}
+
+// What a command does to a core.
+pub enum CoreAction {
+    SetCorePriority(u16),
+    Claim,
+}
+
+// The eight commands, by their subject: what is done, and to which source or core.
 pub enum Command {
-    SetSourcePriority(SourceId, u16),
-    Mask(SourceId),
-    Unmask(SourceId),
-    SetCorePriority(CoreId, u16),
-    Trigger(SourceId),
-    Claim(CoreId),
-    Redeliver(SourceId),
-    Complete(SourceId),
+    OnSource(SourceId, SourceAction),
+    OnCore(CoreId, CoreAction),
 }
 
 // What three numbers name: a command, or none.

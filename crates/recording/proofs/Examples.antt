@@ -4,7 +4,7 @@
 use Prim.Native.Nat.{ℕ}
 use mathlib.Core.Path.{_≡_, refl}
 use mathlib.Core.List.{List, []}
-use Rattle.model.specs.Encoding.{commandOf}
+use Rattle.layout.specs.Commands.{commandOf}
 use Rattle.recording.specs.Words.{bytesOf, cut, words}
 use Rattle.recording.specs.Values.{decimal, codeOf, valueOf, vectorOf}
 use Rattle.recording.specs.Records.{start}

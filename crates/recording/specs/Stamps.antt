@@ -11,7 +11,7 @@ use lib.Dec.{leb, eqb}
 use Rattle.model.specs.declared.Command.{Command}
 use Rattle.model.specs.declared.Decoded.{Decoded}
 use Rattle.model.specs.declared.Decoded.the-variants.{Unknown, Known}
-use Rattle.model.specs.Encoding.{commandOf}
+use Rattle.layout.specs.Commands.{commandOf}
 use Rattle.recording.specs.declared.Signal.the-variants.{Stb, Cmd, Core, Arg, Prio}
 use Rattle.recording.specs.declared.Value.{Value}
 use Rattle.recording.specs.declared.Reader.{Reader}

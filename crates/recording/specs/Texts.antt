@@ -10,7 +10,9 @@ use mathlib.Core.List.{List, [], _∷_}
 use mathlib.Core.Bool.{true, false}
 use lib.ListN.{length}
 use Rattle.model.specs.declared.Command.{Command}
-use Rattle.model.specs.declared.Command.the-variants.{SetSourcePriority, Trigger, Claim}
+use Rattle.model.specs.declared.Command.the-variants.{OnSource, OnCore}
+use Rattle.model.specs.declared.SourceAction.the-variants.{SetSourcePriority, Trigger}
+use Rattle.model.specs.declared.CoreAction.the-variants.{Claim}
 use Rattle.model.specs.Records.{sourceId, coreId}
 use Rattle.recording.specs.declared.Place.the-variants.{Body}
 use Rattle.recording.specs.declared.Reader.{Reader}
@@ -27,7 +29,7 @@ case : String → List Command → ℕ → ℕ → Case
 case text commands number offset = record { text = text; says = readingWith commands number offset }
 
 trigger : ℕ → Command
-trigger id = Trigger (sourceId id)
+trigger id = OnSource (sourceId id) Trigger
 
 -- ---- document 01's text
 
@@ -95,14 +97,14 @@ bodies =
     case "#0 b100 \" b100 $ 1! #1 0! #2 1!" (trigger 4 ∷ trigger 4 ∷ []) 0 31 ∷
     case "#0 b100 \" b100 $ 1! 0! #1" [] 0 25 ∷
     -- capitals in values; a shorter vector extended by zeros, x or z
-    case "#0 B0 \" B11 $ B111 % 1!" (SetSourcePriority (sourceId 3) 7 ∷ []) 0 23 ∷
+    case "#0 B0 \" B11 $ B111 % 1!" (OnSource (sourceId 3) (SetSourcePriority 7) ∷ []) 0 23 ∷
     case "#0 bX1 \" 1!" [] 13 11 ∷
     case "#0 bz \" 1!" [] 13 10 ∷
     -- 13: stb at the end of a stamp, or at a strobe cmd or a value that the command uses; arg and prio are nothing to a claim
     case "#0 X! #1" [] 13 6 ∷
     case "#0 1! #1" [] 13 6 ∷
     case "#0 b0 \" b1 $ 1! #1" [] 13 16 ∷
-    case "#0 b101 \" b11111 # 1! #1" (Claim (coreId 31) ∷ []) 0 24 ∷
+    case "#0 b101 \" b11111 # 1! #1" (OnCore (coreId 31) Claim ∷ []) 0 24 ∷
     -- 11: a word that can't stand there; a code of no variable, or of the wrong kind; too long a vector, shown at its code
     case "#0 $end" [] 11 3 ∷
     case "b1 &" [] 11 3 ∷

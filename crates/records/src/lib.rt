@@ -1,16 +1,18 @@
 // One record made, or read: what a command makes of a source or a core, and what is read off one.
 ghost use mathlib.Core.Path.{_≡_};
-ghost use Rattle.model.specs.Records.{sourceWith, withConfigured, withMask, withDelivered, opened as openedOf, ended as endedOf, boxWith, emptyBox, holding, coreWith, reset as resetOf};
+ghost use Rattle.model.specs.Records.{sourceWith, withConfigured, withMask, withDelivered, opened as openedOf, ended as endedOf, boxWith, emptyBox, holding, coreWith, reset as resetOf, answer};
 ghost use Rattle.model.specs.Priorities.{topPriority};
 ghost use Rattle.model.specs.Requests.{currentPriority, candidate};
 ghost use Rattle.model.specs.Arbitration.{rank as rankOf};
-ghost use Rattle.model.specs.Commands.{claimedCore, soiled as soiledCore};
+ghost use Rattle.model.specs.Commands.{claimedCore, soiled as soiledCore, sourceAfter};
+use model::Answer;
 use model::CORES;
 use model::Controller;
 use model::Core;
 use model::MessageBox;
 use model::SOURCES;
 use model::Source;
+use model::SourceAction;
 use model::SourceId;
 
 // ---- the records' values. Every literal of a state record in code stands here.
@@ -34,7 +36,6 @@ pub fn source_with(
 }
 
 // The source with another priority for its next request.
-// Rules out: a pending request that takes it over (`request_follows_setting`); a mask that falls (`setting_unmasks`).
 pub fn with_configured(r: Source, p: u16) -> Source
     ensures { λ s. ⌜ s ≡ withConfigured p r ⌝ }
 {
@@ -42,7 +43,6 @@ pub fn with_configured(r: Source, p: u16) -> Source
 }
 
 // The source masked, or not.
-// Rules out: a request that ends (`mask_ends_request`); a delivered one that waits again (`unmask_withdraws`).
 pub fn with_mask(r: Source, masked: bool) -> Source
     ensures { λ s. ⌜ s ≡ withMask masked r ⌝ }
 {
@@ -50,7 +50,6 @@ pub fn with_mask(r: Source, masked: bool) -> Source
 }
 
 // The source whose request is delivered, or not.
-// Rules out: a request that ends (`redeliver_ends_request`); one that takes a new priority (`redeliver_at_configured`).
 pub fn with_delivered(r: Source, delivered: bool) -> Source
     ensures { λ s. ⌜ s ≡ withDelivered delivered r ⌝ }
 {
@@ -58,7 +57,6 @@ pub fn with_delivered(r: Source, delivered: bool) -> Source
 }
 
 // The source with a new request, at its configured priority.
-// Rules out: no request (`trigger_opens_nothing`); one at an older priority (`trigger_keeps_old_priority`).
 pub fn opened(r: Source) -> Source
     ensures { λ s. ⌜ s ≡ openedOf r ⌝ }
 {
@@ -66,7 +64,6 @@ pub fn opened(r: Source) -> Source
 }
 
 // The source with no request any more.
-// Rules out: the request's priority left behind (`complete_keeps_priority`); the request itself (`complete_keeps_pending`).
 pub fn ended(r: Source) -> Source
     ensures { λ s. ⌜ s ≡ endedOf r ⌝ }
 {
@@ -100,7 +97,6 @@ pub fn empty_box() -> MessageBox
 }
 
 // The core with its box emptied.
-// Rules out: a core that falls (`retraction_lowers_core`) or rises with it (`retraction_raises_core`).
 pub fn emptied(c: Core) -> Core
     ensures { λ r. ⌜ r ≡ coreWith (c .configured) emptyBox ⌝ }
 {
@@ -108,7 +104,6 @@ pub fn emptied(c: Core) -> Core
 }
 
 // The core with a request in its box.
-// Rules out: a dirty box (`delivered_dirty`); a core whose own priority follows (`delivery_sets_core`).
 pub fn filled_with(c: Core, id: SourceId, p: u16) -> Core
     ensures { λ r. ⌜ r ≡ coreWith (c .configured) (holding id p) ⌝ }
 {
@@ -116,7 +111,6 @@ pub fn filled_with(c: Core, id: SourceId, p: u16) -> Core
 }
 
 // The core raised to its box's priority, and the box emptied.
-// Rules out: a core that stays (`claim_leaves_core`); the id taken for the priority (`claim_raises_to_id`).
 pub fn claimed_core(c: Core) -> Core
     ensures { λ r. ⌜ r ≡ claimedCore c ⌝ }
 {
@@ -124,7 +118,6 @@ pub fn claimed_core(c: Core) -> Core
 }
 
 // The core with its box made dirty, if it is filled.
-// Rules out: a core that rises to its box (`soiling_raises_core`); a box that falls to its core (`soiling_lowers_box`).
 pub fn soiled(c: Core) -> Core
     ensures { λ r. ⌜ r ≡ soiledCore c ⌝ }
 {
@@ -140,8 +133,21 @@ pub fn soiled(c: Core) -> Core
     )
 }
 
+// The source after an action, before settling.
+pub fn source_after(a: SourceAction, r: Source) -> Source
+    ensures { λ s. ⌜ s ≡ sourceAfter a r ⌝ }
+{
+    match a {
+        SourceAction::SetSourcePriority(p) => with_configured(r, p),
+        SourceAction::Mask => with_mask(r, true),
+        SourceAction::Unmask => with_mask(r, false),
+        SourceAction::Trigger => opened(r),
+        SourceAction::Redeliver => with_delivered(r, false),
+        SourceAction::Complete => ended(r),
+    }
+}
+
 // Document 01: "fresh". Any sizes; who asks for a controller checks them first.
-// Rules out: a source of priority 0 (`fresh_priority_zero`); an unmasked one (`fresh_unmasked`).
 pub fn reset(n: u16, m: u16) -> Controller
     ensures { λ r. ⌜ r ≡ resetOf n m ⌝ }
 {
@@ -155,10 +161,35 @@ pub fn reset(n: u16, m: u16) -> Controller
     }
 }
 
+// ---- answers
+
+// What an accepted command answers.
+pub fn accepted(state: Controller, id: SourceId, cycles: u16) -> Answer
+    ensures { λ r. ⌜ r ≡ answer state 0 (id .0) cycles ⌝ }
+{
+    Answer {
+        state,
+        number: 0,
+        id,
+        cycles,
+    }
+}
+
+// What a refused one answers, with the state that it hands back.
+pub fn refused(state: Controller, number: u8) -> Answer
+    ensures { λ r. ⌜ r ≡ answer state number 0 0 ⌝ }
+{
+    Answer {
+        state,
+        number,
+        id: SourceId(0),
+        cycles: 0,
+    }
+}
+
 // ---- what is read off one record
 
 // The top priority, 2^(floor(log2 n) + 2) - 1, from the leading zeros of n.
-// Rules out: another value without sources (`no_sources_top_one`).
 pub fn top_priority(n: u16) -> u32
     ensures { λ r. ⌜ r ≡ topPriority n ⌝ }
 {
@@ -170,7 +201,6 @@ pub fn top_priority(n: u16) -> u32
 }
 
 // The box's priority if the box is filled, else the configured one.
-// Rules out: a box that counts only while it is dirty (`current_while_dirty`).
 pub fn current_priority(c: Core) -> u16
     ensures { λ r. ⌜ r ≡ currentPriority c ⌝ }
 {
@@ -182,7 +212,6 @@ pub fn current_priority(c: Core) -> u16
 }
 
 // Pending, not delivered, not masked.
-// Rules out: a delivered request as a candidate (`delivered_is_candidate`); a masked one (`masked_is_candidate`).
 pub fn is_candidate(r: Source) -> bool
     ensures { λ b. ⌜ b ≡ candidate r ⌝ }
 {
@@ -196,7 +225,6 @@ pub fn is_candidate(r: Source) -> bool
 }
 
 // What the comparator compares: 0 for no candidate, else one more than the request's priority.
-// Rules out: the configured priority instead (`rank_by_configured`); a candidate of priority 0 lost (`priority_zero_unranked`).
 pub fn rank(r: Source) -> u32
     ensures { λ k. ⌜ k ≡ rankOf r ⌝ }
 {

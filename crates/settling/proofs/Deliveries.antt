@@ -1,4 +1,5 @@
--- The delivering phase ends. Each delivery caps the candidates at the priority delivered, and one more core reaches the cap. Assumes nothing.
+-- The delivering phase ends. Each delivery caps the candidates at the priority delivered, and one more core reaches the cap.
+-- Assumes nothing.
 --   Running s p       s is in that phase, and no candidate is above the cap p
 --   short s p         how many cores are below the cap: each delivery lowers it, and at 0 nothing is left to deliver
 --   deliveries-end    settling ends, with at most m deliveries
@@ -17,13 +18,13 @@ use Rattle.model.specs.Settling.{deliver, next}
 use Rattle.lists.proofs.Bools.{clash}
 use Rattle.model.proofs.Candidates.{candidate-pending}
 use Rattle.lists.proofs.Counting.{reached, reached-le, reached-more}
-use Rattle.settling.specs.Phases.{Delivering}
-use Rattle.settling.proofs.Writes.{core-deliver-other, deliver-sizes}
-use Rattle.settling.proofs.Keeps.{deliver-keeps}
-use Rattle.settling.proofs.Arbitrated.{Arbitrated, contest-arbitrated, CandidateBefore, stayed, evicted}
+use Rattle.settling.specs.Phases.{Delivering, Ended}
+use Rattle.settling.proofs.Writes.{core-deliver-other}
+use Rattle.settling.proofs.Keeps.{deliver-keeps, kept-n, kept-m, kept-priority}
+use Rattle.settling.proofs.Arbitrated.{Arbitrated, CandidateBefore, stayed, evicted}
 use Rattle.settling.proofs.Deliver.{deliver-consistent, deliver-current-same, deliver-delivering, deliver-claimed, deliver-candidate}
 use Rattle.settling.proofs.Next.{Contest, Settled, Next, resting, retracting, arbitrating, next-cases}
-use Rattle.settling.proofs.Run.{Ended, ended-here, ended-step, ended-within}
+use Rattle.settling.proofs.Run.{ended-here, ended-step, ended-within}
 
 -- ---- at rest the state is sound
 
@@ -49,17 +50,17 @@ short s p = s .m - reached (s .m) p (current s)
 
 module _ (s : Controller) (p : ℕ) (run : Running s p) (i k : ℕ) (c : Contest s i k) where
   arbitrated : Arbitrated s i k
-  arbitrated = contest-arbitrated (run .consistent) (run .delivering) c
+  arbitrated = record { consistent = run .consistent; delivering = run .delivering; won = c }
 
   capped-deliver : Capped (deliver s i k) ((sourceAt s i) .priority)
   capped-deliver j q e = go (deliver-candidate arbitrated j below e)
     where
       below : j < s .n
-      below = rw (deliver-sizes s i k .0) at q
+      below = rw (kept-n s (deliver s i k) (deliver-keeps s i k)) at q
 
       go : CandidateBefore s k j → (sourceAt (deliver s i k) j) .priority ≤ (sourceAt s i) .priority
-      go (stayed u) = omega (arith, deliver-keeps s i k .priority j, c .highest j below u)
-      go (evicted u) = omega (arith, deliver-keeps s i k .priority j, c .above)
+      go (stayed u) = omega (arith, kept-priority s (deliver s i k) (deliver-keeps s i k) j, c .highest j below u)
+      go (evicted u) = omega (arith, kept-priority s (deliver s i k) (deliver-keeps s i k) j, c .above)
 
   -- a core at or above the old cap is at or above the priority delivered
   current-deliver : (j : ℕ) → p ≤ current s j → (sourceAt s i) .priority ≤ current (deliver s i k) j
@@ -86,14 +87,16 @@ module _ (s : Controller) (p : ℕ) (run : Running s p) (i k : ℕ) (c : Contest
 
   short-deliver : short (deliver s i k) ((sourceAt s i) .priority) < short s p
   short-deliver =
-      rw (deliver-sizes s i k .1)
+      rw (kept-m s (deliver s i k) (deliver-keeps s i k))
       (omega (arith, reached-deliver, reached-le (s .m) ((sourceAt s i) .priority) (current (deliver s i k))))
 
 -- ---- all of them
 
 data Move (s : Controller) (p : ℕ) : Type 0 where
   still : next s ≡ Rest → WellFormed s → Move s p
-  moving : (i k : ℕ) → next s ≡ Deliver (sourceId (suc i)) (coreId k) → Arbitrated s i k → Running (deliver s i k) ((sourceAt s i) .priority) → short (deliver s i k) ((sourceAt s i) .priority) < short s p → Move s p
+  moving :
+      (i k : ℕ) → next s ≡ Deliver (sourceId (suc i)) (coreId k) → Arbitrated s i k →
+      Running (deliver s i k) ((sourceAt s i) .priority) → short (deliver s i k) ((sourceAt s i) .priority) < short s p → Move s p
 
 move : (s : Controller) (p : ℕ) → Running s p → Move s p
 move s p run = go (next-cases s (run .consistent .some-source) (run .consistent .some-core))
@@ -112,11 +115,13 @@ running-end zero p s run h = go (move s p run)
     go (moving i k e a after less) = absurd (omega arith)
 running-end (suc f) p s run h = go (move s p run) (running-end f)
   where
-    go : Move s p → ((p′ : ℕ) (s′ : Controller) → Running s′ p′ → short s′ p′ ≤ f → Ended s′ f 0 (short s′ p′)) → Ended s (suc f) 0 (short s p)
+    go :
+        Move s p → ((p′ : ℕ) (s′ : Controller) → Running s′ p′ → short s′ p′ ≤ f → Ended s′ f 0 (short s′ p′)) →
+        Ended s (suc f) 0 (short s p)
     go (still e w) rest = ended-within (ended-here s e w (suc f)) 0 (short s p) (omega arith) (omega arith)
     go (moving i k e a after less) rest =
         ended-within
-        (ended-step s (Deliver (sourceId (suc i)) (coreId k)) e (deliver-sizes s i k .0) (deliver-claimed a)
+        (ended-step s (Deliver (sourceId (suc i)) (coreId k)) e (kept-n s (deliver s i k) (deliver-keeps s i k)) (deliver-claimed a)
         (rest ((sourceAt s i) .priority) (deliver s i k) after (omega arith)))
         0 (short s p) (omega arith) (omega arith)
 

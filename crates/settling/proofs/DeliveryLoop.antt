@@ -3,8 +3,8 @@
 --   delivered-none               before the first turn
 --   delivered-more               a turn that delivers
 --   delivered-rest, -all         at rest, or after m turns: the answer is that of every longer run
-use Prim.Native.Nat.{ℕ, suc, _+_, _-_, _^_, _<_, _≤_}
-use mathlib.Core.Path.{_≡_, refl, _∙_}
+use Prim.Native.Nat.{ℕ, suc, _+_, _^_, _<_, _≤_}
+use mathlib.Core.Path.{_≡_, refl}
 use mathlib.Core.List.{List}
 use mathlib.Core.Bool.{true}
 use lib.ListN.{length, getD, set}
@@ -12,18 +12,17 @@ use native.Mathlib.Omega.{arith}
 use Rattle.model.specs.declared.Core.{Core}
 use Rattle.model.specs.declared.Controller.{Controller}
 use Rattle.model.specs.declared.Cycle.the-variants.{Rest, Deliver}
-use Rattle.model.specs.Records.{maxSources, maxCores, sourceId, coreId, withDelivered, holding, coreWith, sourceAt, coreAt, withSource, withCore, answer}
+use Rattle.model.specs.Records.{maxSources, maxCores, sourceId, coreId, withDelivered, holding, coreWith, sourceAt, coreAt, withSource, withCore}
 use Rattle.lists.specs.Walks.{walk}
-use Rattle.model.specs.Settling.{next, settle, cyclesOf, isRetraction, isDelivery}
-use Rattle.arbitration.specs.Keys.{HighestKey, keyBelow}
+use Rattle.model.specs.Settling.{next, settle, cyclesOf, isDelivery}
+use Rattle.arbitration.specs.Keys.{HighestKey, keyBelow, RanksOf}
+use Rattle.arbitration.proofs.ByKeys.{CurrentsOf}
 use Rattle.model.specs.WellFormed.{Consistent}
 use Rattle.settling.specs.Phases.{Delivering}
-use Rattle.settling.specs.Runs.{RanksOf, CurrentsOf, AfterDeliveries}
-use Rattle.settling.proofs.Writes.{deliver-sizes}
+use Rattle.settling.specs.Runs.{reachedWith, AfterDeliveries}
 use Rattle.settling.proofs.Arbitrated.{Arbitrated}
 use Rattle.settling.proofs.Deliver.{deliver-consistent, deliver-delivering}
-use Rattle.settling.proofs.Run.{settle-rest, count-rest}
-use Rattle.settling.proofs.Forward.{settle-add, cyclesOf-add, cyclesOf-le, Ran, ran-none, ran-more}
+use Rattle.settling.proofs.Forward.{settle-beyond, cyclesOf-beyond, cyclesOf-le, Ran, ran-none, ran-more, ran-n, ran-m}
 use Rattle.settling.proofs.Deliveries.{deliveries-end}
 use Rattle.settling.proofs.Keyed.{Keyed, source-in, core-in, current-small, rests, delivers, arbitrated}
 use Rattle.settling.proofs.Stores.{PutBack, stores-are, keyed-delivered}
@@ -34,10 +33,10 @@ pub record Delivered (s : Controller) (ks cs : List ℕ) (state : Controller) (t
   pub delivering : Delivering state
   pub keyed : Keyed state ks cs
   pub within : t ≤ s .m
-  pub n-same : state .n ≡ s .n
-  pub m-same : state .m ≡ s .m
 
-pub delivered-none : (s : Controller) (ks cs : List ℕ) → Consistent s → Delivering s → RanksOf (s .sources) (s .n) ks → CurrentsOf (s .cores) (s .m) cs → length ks ≡ maxSources → length cs ≡ maxCores → Delivered s ks cs s 0
+pub delivered-none :
+    (s : Controller) (ks cs : List ℕ) → Consistent s → Delivering s → RanksOf (s .sources) (s .n) ks → CurrentsOf (s .cores) (s .m) cs →
+    length ks ≡ maxSources → length cs ≡ maxCores → Delivered s ks cs s 0
 delivered-none s ks cs c d ranks currents e e′ =
     record {
       ran = ran-none isDelivery s;
@@ -45,18 +44,17 @@ delivered-none s ks cs c d ranks currents e e′ =
       delivering = d;
       keyed = record { ranks = ranks; currents = currents; keys-length = e; currents-length = e′ };
       within = omega arith;
-      n-same = refl;
-      m-same = refl;
     }
 
 -- ---- one turn
 
-module _ {s state : Controller} {ks cs : List ℕ} {t : ℕ} (r : Delivered s ks cs state t) {at k : ℕ} (highest : HighestKey ks 0 (s .n) at) (least : k ≡ walk (keyBelow cs) (s .m)) where
+module _ {s state : Controller} {ks cs : List ℕ} {t : ℕ} (r : Delivered s ks cs state t) {at k : ℕ} (highest : HighestKey ks 0 (s .n) at)
+    (least : k ≡ walk (keyBelow cs) (s .m)) where
   highest-here : HighestKey ks 0 (state .n) at
-  highest-here = rw (r .n-same) highest
+  highest-here = rw (ran-n (r .ran)) highest
 
   least-here : k ≡ walk (keyBelow cs) (state .m)
-  least-here = rw (r .m-same) least
+  least-here = rw (ran-m (r .ran)) least
 
   -- the indices lie in the arrays
   pub found-source : at < maxSources
@@ -80,7 +78,11 @@ module _ {s state : Controller} {ks cs : List ℕ} {t : ℕ} (r : Delivered s ks
     turn-delivers : next state ≡ Deliver (sourceId (suc at)) (coreId k)
     turn-delivers = delivers (r .consistent) (r .delivering) (r .keyed) highest-here least-here above
 
-    pub delivered-more : {ks₁ : List ℕ} {s₁ : Controller} → PutBack state k ks₁ s₁ → t < s .m → (d : Core) → d ≡ coreWith ((coreAt state k) .configured) (holding (sourceId (at + 1)) ((sourceAt s₁ at) .priority)) → Delivered s (set ks₁ at 0) (set cs k ((sourceAt s₁ at) .priority)) (withCore (withSource s₁ at (withDelivered true (sourceAt s₁ at))) k d) (t + 1)
+    pub delivered-more :
+        {ks₁ : List ℕ} {s₁ : Controller} → PutBack state k ks₁ s₁ → t < s .m → (d : Core) →
+        d ≡ coreWith ((coreAt state k) .configured) (holding (sourceId (at + 1)) ((sourceAt s₁ at) .priority)) →
+        Delivered s (set ks₁ at 0) (set cs k ((sourceAt s₁ at) .priority))
+        (withCore (withSource s₁ at (withDelivered true (sourceAt s₁ at))) k d) (t + 1)
     delivered-more b h d e =
         rw (stores-are turn-arbitrated (r .keyed) b d e)
         (record {
@@ -89,29 +91,18 @@ module _ {s state : Controller} {ks cs : List ℕ} {t : ℕ} (r : Delivered s ks
           delivering = deliver-delivering turn-arbitrated;
           keyed = keyed-delivered turn-arbitrated (r .keyed) b;
           within = omega arith;
-          n-same = deliver-sizes state at k .0 ∙ r .n-same;
-          m-same = deliver-sizes state at k .1 ∙ r .m-same;
         })
 
 -- ---- the end
 
-cyclesOf-rest : (s : Controller) → next s ≡ Rest → (f : ℕ) → cyclesOf f s ≡ 0
-unfolding cyclesOf
-cyclesOf-rest s rest f = omega (arith, count-rest s rest isRetraction refl f, count-rest s rest isDelivery refl f)
-
-module _ {s state : Controller} {ks cs : List ℕ} {t : ℕ} (r : Delivered s ks cs state t) (id spent : ℕ) where
-  -- f more cycles change nothing
-  answered : next state ≡ Rest → (f : ℕ) → answer state 0 id (spent + t) ≡ answer (settle (t + f) s) 0 id (spent + cyclesOf (t + f) s)
+module _ {s state : Controller} {ks cs : List ℕ} {t : ℕ} (r : Delivered s ks cs state t) (spent : ℕ) where
+  pub delivered-rest : next state ≡ Rest → AfterDeliveries s spent (reachedWith state (spent + t))
   unfolding cyclesOf
-  answered rest f =
-      let state-there : settle (t + f) s ≡ state = rw (settle-add, ← r .ran .state-is) (settle-rest state rest f) in
-      let cycles-there : cyclesOf (t + f) s ≡ t = rw (cyclesOf-add, ← r .ran .state-is) (omega (arith, r .ran .counted, cyclesOf-le t s, cyclesOf-rest state rest f)) in
-      rw (state-there, cycles-there)
-
-  pub delivered-rest : next state ≡ Rest → AfterDeliveries s id spent (answer state 0 id (spent + t))
   delivered-rest rest f h =
-      let split : t + (f - t) ≡ f = omega (arith, r .within) in
-      rw split at (answered rest (f - t))
+      let rests : next (settle t s) ≡ Rest = rw (← r .ran .state-is) rest in
+      let more : t ≤ f = omega (arith, r .within) in
+      let cycles-there : cyclesOf f s ≡ t = omega (arith, cyclesOf-beyond s t rests f more, r .ran .counted, cyclesOf-le t s) in
+      rw (settle-beyond s t rests f more, cycles-there, r .ran .state-is)
 
-  pub delivered-all : Consistent s → Delivering s → s .m ≤ t → AfterDeliveries s id spent (answer state 0 id (spent + t))
+  pub delivered-all : Consistent s → Delivering s → s .m ≤ t → AfterDeliveries s spent (reachedWith state (spent + t))
   delivered-all c d h = delivered-rest (rw (r .ran .state-is) (deliveries-end s c d t h .rests))

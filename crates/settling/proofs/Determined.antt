@@ -6,12 +6,12 @@ use mathlib.Core.Path.{_≡_, sym, ap, _∙_}
 use native.Mathlib.Omega.{arith}
 use Rattle.model.specs.declared.Controller.{Controller}
 use Rattle.model.specs.Settling.{settle, isRetraction, countOf, cyclesOf}
-use Rattle.settling.specs.declared.Retracted.{Retracted}
-use Rattle.settling.specs.Runs.{AfterRetractions, RetractionsDetermined}
+use Rattle.settling.specs.declared.Reached.{Reached}
+use Rattle.settling.specs.Runs.{reachedWith, AfterRetractions, RetractionsDetermined}
 use Rattle.settling.proofs.Forward.{settle-add, countOf-add, cyclesOf-add, cyclesOf-le}
 use Rattle.settling.proofs.Deliveries.{deliveries-end}
 
-module _ {s : Controller} {r : Retracted} (a : AfterRetractions s r) where
+module _ {s : Controller} {r : Reached} (a : AfterRetractions s r) where
   pub after-settles : (f : ℕ) → settle (r .cycles + f) s ≡ settle f (r .state)
   after-settles f = rw (a .state-is) (settle-add (r .cycles) f s)
 
@@ -32,7 +32,7 @@ module _ {s : Controller} {r : Retracted} (a : AfterRetractions s r) where
       omega (arith, a .each-retracts, countOf-add isRetraction (r .cycles) f s, ap (λ (g : ℕ). countOf isRetraction g s) all)
 
 pub retractions-determined : RetractionsDetermined
-retractions-determined s r r′ a a′ = λ t. record { state = states t; cycles = counts t }
+retractions-determined s r r′ a a′ = λ t. reachedWith (states t) (counts t)
   where
     counts : r .cycles ≡ r′ .cycles
     counts = cycles-are a ∙ sym (cycles-are a′)

@@ -2,23 +2,12 @@
 --   phases-settle    the state then is sound and at rest; at most m retractions and m deliveries; what is claimed stays claimed
 use Prim.Native.Nat.{_*_}
 use native.Mathlib.Omega.{arith}
-use Rattle.model.specs.declared.Controller.{Controller}
-use Rattle.settling.specs.Phases.{retracting, delivering, Settles, PhasesSettle}
-use Rattle.settling.proofs.Run.{Ended, ended-within}
+use Rattle.settling.specs.Phases.{retracting, delivering, PhasesSettle}
+use Rattle.settling.proofs.Run.{ended-within}
 use Rattle.settling.proofs.Deliveries.{deliveries-end}
 use Rattle.settling.proofs.Retractions.{retractions-end}
 
-settles : (s : Controller) → Ended s (2 * s .m) (s .m) (s .m) → Settles s
-settles s end =
-    record {
-      wellFormed = end .wellFormed;
-      rests = end .rests;
-      retractions = end .retractions;
-      deliveries = end .deliveries;
-      claimed-kept = end .claimed-kept;
-    }
-
 pub phases-settle : PhasesSettle
-phases-settle s c (retracting all) = settles s (retractions-end s c all (2 * s .m) (omega arith))
+phases-settle s c (retracting all) = retractions-end s c all (2 * s .m) (omega arith)
 phases-settle s c (delivering d) =
-    settles s (ended-within (deliveries-end s c d (2 * s .m) (omega arith)) (s .m) (s .m) (omega arith) (omega arith))
+    ended-within (deliveries-end s c d (2 * s .m) (omega arith)) (s .m) (s .m) (omega arith) (omega arith)

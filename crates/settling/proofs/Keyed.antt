@@ -24,13 +24,12 @@ use Rattle.model.specs.Settling.{interruptedBy, arbitrate, next}
 use Rattle.lists.proofs.Bools.{and-in, Flag, on, off, flag}
 use Rattle.model.proofs.Candidates.{rank-candidate, rank-none}
 use Rattle.model.proofs.Priorities.{top-lt}
-use Rattle.arbitration.specs.Keys.{HighestKey, keyBelow}
+use Rattle.arbitration.specs.Keys.{HighestKey, keyBelow, RanksOf}
 use Rattle.arbitration.proofs.Tree.{highest-below, least-below}
-use Rattle.arbitration.proofs.ByKeys.{highest-by-keys, least-by-keys}
+use Rattle.arbitration.proofs.ByKeys.{CurrentsOf, highest-by-keys, least-by-keys}
 use Rattle.model.specs.WellFormed.{Holding, Consistent}
 use Rattle.settling.specs.Phases.{Delivering}
-use Rattle.settling.specs.Runs.{RanksOf, CurrentsOf}
-use Rattle.settling.proofs.Arbitrated.{Arbitrated, contest-arbitrated}
+use Rattle.settling.proofs.Arbitrated.{Arbitrated}
 use Rattle.settling.proofs.Next.{Contest, topSource, lowCore, contest, next-clean}
 
 pub record Keyed (s : Controller) (ks cs : List ℕ) : Type 0 where
@@ -72,7 +71,8 @@ rank-not-above c r h = go (flag (candidate r))
 
 -- ---- what the search over the keys finds
 
-module _ {s : Controller} {ks cs : List ℕ} (c : Consistent s) (d : Delivering s) (keyed : Keyed s ks cs) {at k : ℕ} (highest : HighestKey ks 0 (s .n) at) (least : k ≡ walk (keyBelow cs) (s .m)) where
+module _ {s : Controller} {ks cs : List ℕ} (c : Consistent s) (d : Delivering s) (keyed : Keyed s ks cs) {at k : ℕ}
+    (highest : HighestKey ks 0 (s .n) at) (least : k ≡ walk (keyBelow cs) (s .m)) where
   source-is : at ≡ topSource s
   source-is = highest-by-keys (s .sources) (s .n) ks (keyed .ranks) at highest
 
@@ -109,8 +109,9 @@ module _ {s : Controller} {ks cs : List ℕ} (c : Consistent s) (d : Delivering 
 
     contested : Contest s at k
     contested =
-        let found : interruptedBy (coreAt s k) (sourceAt s at) ≡ true → Contest s at k = rw (source-is, core-is) (contest s (c .some-source) (c .some-core)) in
+        let found : interruptedBy (coreAt s k) (sourceAt s at) ≡ true → Contest s at k =
+        rw (source-is, core-is) (contest s (c .some-source) (c .some-core)) in
         found interrupts-there
 
     pub arbitrated : Arbitrated s at k
-    arbitrated = contest-arbitrated c d contested
+    arbitrated = record { consistent = c; delivering = d; won = contested }

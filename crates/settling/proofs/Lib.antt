@@ -9,7 +9,6 @@ pub mod Retract
 pub mod Next
 pub mod Run
 pub mod Forward
-pub mod Filling
 pub mod Deliveries
 pub mod Retractions
 pub mod Retracting

@@ -44,7 +44,8 @@ module _ (l : List Core) where
       go : First j (firstDirty l j) → Flag (dirtyAt l j) → First (suc j) (firstDirty l (suc j))
       go (found p e c) f = rw (lt-ltb (firstDirty l j) j p) (found (omega arith) e c)
       go (missed p c) (on e) = rw (le-ltb (firstDirty l j) j (omega arith), e) (found (omega arith) e c)
-      go (missed p c) (off e) = rw (le-ltb (firstDirty l j) j (omega arith), e) (missed refl (below-suc (λ (k : ℕ). dirtyAt l k ≡ false) j c e))
+      go (missed p c) (off e) = rw (le-ltb (firstDirty l j) j (omega arith), e)
+          (missed refl (below-suc (λ (k : ℕ). dirtyAt l k ≡ false) j c e))
 
 -- ---- the three cases
 
@@ -96,7 +97,9 @@ module _ (s : Controller) (some-source : 1 ≤ s .n) (some-core : 1 ≤ s .m) wh
       high : ℕ
       high = (sourceAt s (topSource s)) .priority
 
-      go : Dec (low < high) → (candidate (sourceAt s (topSource s)) ≡ true) × ((sourceAt s i) .priority ≤ high) → (sourceAt s i) .priority ≤ currentPriority (coreAt s k)
+      go :
+          Dec (low < high) → (candidate (sourceAt s (topSource s)) ≡ true) × ((sourceAt s i) .priority ≤ high) →
+          (sourceAt s i) .priority ≤ currentPriority (coreAt s k)
       go (yes u) h = clash (and-in (h .0) (lt-ltb low high u)) e
       go (no u) h = omega (arith, h .1, least-le (s .cores) (s .m) k q)
 

@@ -4,8 +4,7 @@
 use Prim.Native.Nat.{ℕ, suc, _<_, _≤_}
 use mathlib.Core.Path.{_≡_, sym, _∙_, ap}
 use mathlib.Core.Logic.{_≢_}
-use mathlib.Core.Bool.{true, false}
-use lib.ListN.{length}
+use mathlib.Core.Bool.{Bool, true, false}
 use native.Mathlib.Nat.{suc-pred-eq-of-pos}
 use native.Mathlib.Omega.{arith}
 use native.Mathlib.Decide.{ℕ-discrete}
@@ -13,10 +12,15 @@ use Rattle.model.specs.declared.Source.{Source}
 use Rattle.model.specs.declared.SourceId.{SourceId}
 use Rattle.model.specs.declared.Core.{Core}
 use Rattle.model.specs.declared.Controller.{Controller}
-use Rattle.model.specs.Records.{resetSource, emptyBox, indexOf, sourceAt, coreAt}
+use Rattle.model.specs.Records.{resetSource, emptyBox, indexOf, withDelivered, sourceAt, coreAt}
 use Rattle.model.specs.WellFormed.{Holding, Consistent}
 use Rattle.settling.specs.Phases.{Kept}
 use Rattle.settling.proofs.Writes.{Names}
+use Rattle.settling.proofs.Keeps.{kept-n, kept-m, kept-sources-length, kept-cores-length, kept-source, kept-configured, kept-pending, kept-priority, kept-core-configured}
+
+-- without its mark, a source that is not delivered is what it was
+unmarked-is : (r : Source) → r .delivered ≡ false → withDelivered false r ≡ r
+unmarked-is r e = ap (λ (d : Bool). withDelivered d r) (sym e)
 
 -- two ids that are not 0 are told apart by their indices
 same-id : (x y : SourceId) → 1 ≤ x .0 → 1 ≤ y .0 → indexOf x ≡ indexOf y → x .0 ≡ y .0
@@ -30,8 +34,6 @@ SameSource c d = c .message .source .0 ≡ d .message .source .0
 
 pub record BoxWritten (s s′ : Controller) (k : ℕ) : Type 0 where
   pub kept : Kept s s′
-  pub sources-length : length (s′ .sources) ≡ length (s .sources)
-  pub cores-length : length (s′ .cores) ≡ length (s .cores)
   pub core-other : (j : ℕ) → j ≢ k → coreAt s′ j ≡ coreAt s j
   pub stays-idle : (i : ℕ) → (sourceAt s i) .pending ≡ false → (sourceAt s i) .delivered ≡ false → (sourceAt s′ i) .delivered ≡ false
   pub stays-delivered : (i : ℕ) → (sourceAt s i) .delivered ≡ true → ¬ (Names ((coreAt s k) .message) i) → (sourceAt s′ i) .delivered ≡ true
@@ -43,12 +45,13 @@ pub record BoxFits (s s′ : Controller) (k : ℕ) : Type 0 where
 
 module _ (s s′ : Controller) (k : ℕ) (w : BoxWritten s s′ k) where
   -- a law of the cores: of core k by what was written, of the others as they were
-  pub each-core : (P : Core → Type 0) → P (coreAt s′ k) → ((j : ℕ) → j < s .m → j ≢ k → P (coreAt s j)) → (j : ℕ) → j < s′ .m → P (coreAt s′ j)
+  pub each-core :
+      (P : Core → Type 0) → P (coreAt s′ k) → ((j : ℕ) → j < s .m → j ≢ k → P (coreAt s j)) → (j : ℕ) → j < s′ .m → P (coreAt s′ j)
   each-core P here there j h = go (ℕ-discrete j k)
     where
       go : Dec (j ≡ k) → P (coreAt s′ j)
       go (yes e) = rw e here
-      go (no q) = rw (w .core-other j q) (there j (omega arith) q)
+      go (no q) = rw (w .core-other j q) (there j (omega (arith, kept-m s s′ (w .kept))) q)
 
 module _ (s s′ : Controller) (k : ℕ) (c : Consistent s) (k-in : k < s .m) (w : BoxWritten s s′ k) where
   -- two boxes name two sources
@@ -65,25 +68,21 @@ module _ (s s′ : Controller) (k : ℕ) (c : Consistent s) (k-in : k < s .m) (w
       go b =
           record {
             some-id = b .some-id;
-            id-le = omega arith;
-            pending = w .kept .pending (indexOf ((coreAt s j) .message .source)) ∙ b .pending;
+            id-le = omega (arith, kept-n s s′ (w .kept));
+            pending = kept-pending s s′ (w .kept) (indexOf ((coreAt s j) .message .source)) ∙ b .pending;
             delivered = w .stays-delivered (indexOf ((coreAt s j) .message .source)) (b .delivered) (other-unnamed j h q f);
-            same-priority = w .kept .priority (indexOf ((coreAt s j) .message .source)) ∙ b .same-priority;
+            same-priority = kept-priority s s′ (w .kept) (indexOf ((coreAt s j) .message .source)) ∙ b .same-priority;
             above = b .above;
           }
 
   still-spare : (i : ℕ) → sourceAt s i ≡ resetSource → sourceAt s′ i ≡ resetSource
   still-spare i e =
-      λ t. record {
-        configured = (w .kept .configured i ∙ ap (λ (r : Source). r .configured) e) t;
-        masked = (w .kept .masked i ∙ ap (λ (r : Source). r .masked) e) t;
-        pending = (w .kept .pending i ∙ ap (λ (r : Source). r .pending) e) t;
-        delivered = w .stays-idle i (ap (λ (r : Source). r .pending) e) (ap (λ (r : Source). r .delivered) e) t;
-        priority = (w .kept .priority i ∙ ap (λ (r : Source). r .priority) e) t;
-      }
+      let idle : (sourceAt s′ i) .delivered ≡ false =
+      w .stays-idle i (ap (λ (r : Source). r .pending) e) (ap (λ (r : Source). r .delivered) e) in
+      sym (unmarked-is (sourceAt s′ i) idle) ∙ kept-source s s′ (w .kept) i ∙ ap (withDelivered false) e
 
   still-idle : (i : ℕ) → i < s .n → (sourceAt s i) .pending ≡ false → ((sourceAt s′ i) .delivered ≡ false) × ((sourceAt s′ i) .priority ≡ 0)
-  still-idle i h e = (w .stays-idle i e (c .idle-source i h e .0), w .kept .priority i ∙ c .idle-source i h e .1)
+  still-idle i h e = (w .stays-idle i e (c .idle-source i h e .0), kept-priority s s′ (w .kept) i ∙ c .idle-source i h e .1)
 
   module _ (b : BoxFits s s′ k) where
     still-alone : (j : ℕ) → j < s .m → j ≢ k → Filled s′ j → Filled s′ k → ¬ (SameSource (coreAt s′ j) (coreAt s′ k))
@@ -101,22 +100,31 @@ module _ (s s′ : Controller) (k : ℕ) (c : Consistent s) (k-in : k < s .m) (w
             c .distinct j l h h′ (rw (w .core-other j p) at f) (rw (w .core-other l q) at f′)
             (rw (w .core-other j p, w .core-other l q) at e)
 
+    same-n : s′ .n ≡ s .n
+    same-n = kept-n s s′ (w .kept)
+
+    same-m : s′ .m ≡ s .m
+    same-m = kept-m s s′ (w .kept)
+
     pub box-written-consistent : Consistent s′
     box-written-consistent =
         record {
-          some-source = omega arith;
-          n-le = omega arith;
-          some-core = omega arith;
-          m-le = omega arith;
-          sources-length = w .sources-length ∙ c .sources-length;
-          cores-length = w .cores-length ∙ c .cores-length;
-          configured-source = λ i h. rw (w .kept .n-same, w .kept .configured i) (c .configured-source i (omega arith));
-          request-range = λ i h p. rw (w .kept .n-same, w .kept .priority i) (c .request-range i (omega arith) (rw (w .kept .pending i) at p));
-          idle-source = λ i h p. still-idle i (omega arith) (rw (w .kept .pending i) at p);
-          configured-core = λ j h. rw (w .kept .n-same, w .kept .core-configured j) (c .configured-core j (omega arith));
-          empty-box = each-core s s′ k w (λ (d : Core). d .message .filled ≡ false → d .message ≡ emptyBox) (b .empty) (λ j h q. c .empty-box j h);
-          spare-source = λ i h h′. still-spare i (c .spare-source i (omega arith) h′);
-          spare-core = λ j h h′. w .core-other j (omega arith) ∙ c .spare-core j (omega arith) h′;
+          some-source = rw same-n (c .some-source);
+          n-le = rw same-n (c .n-le);
+          some-core = rw same-m (c .some-core);
+          m-le = rw same-m (c .m-le);
+          sources-length = kept-sources-length s s′ (w .kept) ∙ c .sources-length;
+          cores-length = kept-cores-length s s′ (w .kept) ∙ c .cores-length;
+          configured-source = λ i h. rw (same-n, kept-configured s s′ (w .kept) i) (c .configured-source i (omega (arith, same-n)));
+          request-range = λ i h p. rw (same-n, kept-priority s s′ (w .kept) i)
+              (c .request-range i (omega (arith, same-n)) (rw (kept-pending s s′ (w .kept) i) at p));
+          idle-source = λ i h p. still-idle i (omega (arith, same-n)) (rw (kept-pending s s′ (w .kept) i) at p);
+          configured-core = λ j h. rw (same-n, kept-core-configured s s′ (w .kept) j) (c .configured-core j (omega (arith, same-m)));
+          empty-box =
+              each-core s s′ k w (λ (d : Core). d .message .filled ≡ false → d .message ≡ emptyBox)
+              (b .empty) (λ j h q. c .empty-box j h);
+          spare-source = λ i h h′. still-spare i (c .spare-source i (omega (arith, same-n)) h′);
+          spare-core = λ j h h′. w .core-other j (omega (arith, same-m)) ∙ c .spare-core j (omega (arith, same-m)) h′;
           backed = each-core s s′ k w (λ (d : Core). d .message .filled ≡ true → Holding s′ d) (b .backed) other-backed;
-          distinct = λ j l h h′. still-distinct j l (omega arith) (omega arith);
+          distinct = λ j l h h′. still-distinct j l (omega (arith, same-m)) (omega (arith, same-m));
         }

@@ -13,12 +13,15 @@ use Rattle.lists.proofs.Bools.{refuted}
 use Rattle.model.proofs.Boxes.{holds-in, holds-filled, holds-source, boxed-in, boxed-agree}
 use Rattle.model.specs.WellFormed.{Consistent}
 use Rattle.settling.proofs.Writes.{Names, names?}
+use Rattle.settling.proofs.Keeps.{kept-m, kept-pending}
 use Rattle.settling.proofs.OneBox.{BoxWritten}
 
 pub record MarksFollow (s s′ : Controller) (k j : ℕ) : Type 0 where
   pub lost : Names ((coreAt s k) .message) j → ¬ (Names ((coreAt s′ k) .message) j) → (sourceAt s′ j) .delivered ≡ false
   pub gained : ¬ (Names ((coreAt s k) .message) j) → Names ((coreAt s′ k) .message) j → (sourceAt s j) .delivered ≡ false
-  pub same : ¬ (Names ((coreAt s k) .message) j) → ¬ (Names ((coreAt s′ k) .message) j) → (sourceAt s′ j) .delivered ≡ (sourceAt s j) .delivered
+  pub same :
+      ¬ (Names ((coreAt s k) .message) j) → ¬ (Names ((coreAt s′ k) .message) j) →
+      (sourceAt s′ j) .delivered ≡ (sourceAt s j) .delivered
 
 -- ---- the test of a box, as a fact
 
@@ -49,16 +52,18 @@ module _ (s s′ : Controller) (k j : ℕ) (k-in : k < s .m) (w : BoxWritten s s
       go (yes p) = rw p e
       go (no q) = rw (w .core-other l q)
 
-  claimed-same : (sourceAt s′ j) .delivered ≡ (sourceAt s j) .delivered → holds (suc j) (coreAt s′ k) ≡ holds (suc j) (coreAt s k) → claimed s′ j ≡ claimed s j
+  claimed-same :
+      (sourceAt s′ j) .delivered ≡ (sourceAt s j) .delivered → holds (suc j) (coreAt s′ k) ≡ holds (suc j) (coreAt s k) →
+      claimed s′ j ≡ claimed s j
   claimed-same d e =
-      rw (w .kept .pending j, d, w .kept .m-same, boxed-agree (s′ .cores) (s .cores) (s .m) (suc j) (λ l h. held-same e l))
+      rw (kept-pending s s′ (w .kept) j, d, kept-m s s′ (w .kept), boxed-agree (s′ .cores) (s .cores) (s .m) (suc j) (λ l h. held-same e l))
 
   module _ (c : Consistent s) (c′ : Consistent s′) (f : MarksFollow s s′ k j) where
     was-held : Names ((coreAt s k) .message) j → claimed s j ≡ false
     was-held = named-unclaimed s k j c k-in
 
     is-held : Names ((coreAt s′ k) .message) j → claimed s′ j ≡ false
-    is-held = named-unclaimed s′ k j c′ (rw (w .kept .m-same) k-in)
+    is-held = named-unclaimed s′ k j c′ (rw (kept-m s s′ (w .kept)) k-in)
 
     pub box-written-claimed : claimed s′ j ≡ claimed s j
     box-written-claimed = go (names? ((coreAt s k) .message) j) (names? ((coreAt s′ k) .message) j)

@@ -10,7 +10,7 @@ use Rattle.model.specs.Requests.{claimed}
 use Rattle.model.specs.Settling.{retract}
 use Rattle.model.specs.WellFormed.{Consistent}
 use Rattle.settling.specs.Phases.{AllDirty}
-use Rattle.settling.proofs.Writes.{putBackAt-named, putBackAt-unnamed, putBackAt-undelivered, core-retract-same, core-retract-other, source-retract, retract-lengths}
+use Rattle.settling.proofs.Writes.{putBackAt-named, putBackAt-unnamed, putBackAt-undelivered, core-retract-same, core-retract-other, source-retract}
 use Rattle.settling.proofs.Keeps.{retract-keeps}
 use Rattle.settling.proofs.OneBox.{BoxWritten, BoxFits, each-core, box-written-consistent}
 use Rattle.settling.proofs.OneBoxClaims.{MarksFollow, box-written-claimed}
@@ -20,8 +20,6 @@ module _ (s : Controller) (k : ℕ) where
   written =
       record {
         kept = retract-keeps s k;
-        sources-length = retract-lengths s k .0;
-        cores-length = retract-lengths s k .1;
         core-other = core-retract-other s k;
         stays-idle = λ j p d. rw (source-retract s k j) (putBackAt-undelivered ((coreAt s k) .message) j (sourceAt s j) d);
         stays-delivered = λ j d u. rw (source-retract s k j, putBackAt-unnamed ((coreAt s k) .message) j (sourceAt s j) u) d;

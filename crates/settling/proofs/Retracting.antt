@@ -5,7 +5,7 @@
 --   retracting-dirty, -clean      a turn that meets a dirty box, and one that does not
 --   retracting-all                after the last turn
 use Prim.Native.Nat.{ℕ, _+_, _-_, _<_, _≤_}
-use mathlib.Core.Path.{_≡_, refl, _∙_}
+use mathlib.Core.Path.{_≡_, refl}
 use mathlib.Core.Bool.{true, false}
 use native.Mathlib.Omega.{arith}
 use native.Mathlib.Numerals.{sub-one}
@@ -17,11 +17,11 @@ use Rattle.model.specs.Records.{coreId, emptyBox, coreWith, withDelivered, with
 use Rattle.model.specs.Settling.{retract, isRetraction}
 use Rattle.model.specs.WellFormed.{Holding, Consistent}
 use Rattle.settling.specs.Phases.{AllDirty}
-use Rattle.settling.specs.Runs.{AfterRetractions}
-use Rattle.settling.proofs.Writes.{core-retract-same, core-retract-other, retract-sizes}
+use Rattle.settling.specs.Runs.{reachedWith, AfterRetractions}
+use Rattle.settling.proofs.Writes.{core-retract-same, core-retract-other}
 use Rattle.settling.proofs.Retract.{retract-consistent, retract-allDirty}
 use Rattle.settling.proofs.Next.{Clean, next-retract}
-use Rattle.settling.proofs.Forward.{Ran, ran-none, ran-more}
+use Rattle.settling.proofs.Forward.{Ran, ran-none, ran-more, ran-n, ran-m}
 use Rattle.settling.proofs.Retractions.{clean-delivering, dirty-filled}
 
 pub record Retracting (s state : Controller) (cycles k : ℕ) : Type 0 where
@@ -31,8 +31,6 @@ pub record Retracting (s state : Controller) (cycles k : ℕ) : Type 0 where
   pub within : k ≤ s .m
   pub cycles-le : cycles ≤ k
   pub clean : Clean (state .cores) k
-  pub n-same : state .n ≡ s .n
-  pub m-same : state .m ≡ s .m
 
 pub retracting-none : (s : Controller) → Consistent s → AllDirty s → Retracting s s 0 0
 retracting-none s c all =
@@ -43,8 +41,6 @@ retracting-none s c all =
       within = omega arith;
       cycles-le = omega arith;
       clean = λ j h. absurd (omega arith);
-      n-same = refl;
-      m-same = refl;
     }
 
 -- ---- the code's two stores are the retraction
@@ -52,7 +48,9 @@ retracting-none s c all =
 abbrev pub stored : Controller → ℕ → ℕ → Core → Controller
 stored s i k d = withCore (withSource s i (withDelivered false (sourceAt s i))) k d
 
-stored-is : (s : Controller) (k : ℕ) (d : Core) → (coreAt s k) .message .filled ≡ true → d ≡ coreWith ((coreAt s k) .configured) emptyBox → stored s ((coreAt s k) .message .source .0 - 1) k d ≡ retract s k
+stored-is :
+    (s : Controller) (k : ℕ) (d : Core) → (coreAt s k) .message .filled ≡ true → d ≡ coreWith ((coreAt s k) .configured) emptyBox →
+    stored s ((coreAt s k) .message .source .0 - 1) k d ≡ retract s k
 unfolding retract
 stored-is s k d filled e = rw (sub-one, filled, e)
 
@@ -68,16 +66,16 @@ module _ (s state : Controller) (cycles k : ℕ) (r : Retracting s state cycles 
         within = omega arith;
         cycles-le = omega arith;
         clean = below-more (λ (j : ℕ). (coreAt state j) .message .dirty ≡ false) k (r .clean) e;
-        n-same = r .n-same;
-        m-same = r .m-same;
       }
 
-  pub retracting-clean : (coreAt state k) .message .dirty ≡ false → (state′ : Controller) (cycles′ : ℕ) → state′ ≡ state → cycles′ ≡ cycles → Retracting s state′ cycles′ (k + 1)
+  pub retracting-clean :
+      (coreAt state k) .message .dirty ≡ false → (state′ : Controller) (cycles′ : ℕ) → state′ ≡ state → cycles′ ≡ cycles →
+      Retracting s state′ cycles′ (k + 1)
   retracting-clean e state′ cycles′ p q = rw (p, q) (passed e)
 
   module _ (dirty : (coreAt state k) .message .dirty ≡ true) where
     core-in : k < state .m
-    core-in = omega arith
+    core-in = omega (arith, ran-m (r .ran))
 
     filled : (coreAt state k) .message .filled ≡ true
     filled = dirty-filled state (r .consistent) k core-in dirty
@@ -99,24 +97,26 @@ module _ (s state : Controller) (cycles k : ℕ) (r : Retracting s state cycles 
           cycles-le = omega arith;
           clean =
               below-more (λ (j : ℕ). (coreAt (retract state k) j) .message .dirty ≡ false) k emptied-clean
-              (rw (core-retract-same state k (omega (arith, r .consistent .cores-length))));
-          n-same = retract-sizes state k .0 ∙ r .n-same;
-          m-same = retract-sizes state k .1 ∙ r .m-same;
+              (rw (core-retract-same state k (omega (arith, core-in, r .consistent .m-le, r .consistent .cores-length))));
         }
 
-    pub retracting-dirty : (d : Core) → d ≡ coreWith ((coreAt state k) .configured) emptyBox → (state′ : Controller) (cycles′ : ℕ) → state′ ≡ stored state ((coreAt state k) .message .source .0 - 1) k d → cycles′ ≡ cycles + 1 → Retracting s state′ cycles′ (k + 1)
+    pub retracting-dirty :
+        (d : Core) → d ≡ coreWith ((coreAt state k) .configured) emptyBox → (state′ : Controller) (cycles′ : ℕ) →
+        state′ ≡ stored state ((coreAt state k) .message .source .0 - 1) k d → cycles′ ≡ cycles + 1 →
+        Retracting s state′ cycles′ (k + 1)
     retracting-dirty d e state′ cycles′ p q = rw (p, q, stored-is state k d filled e) retracted
 
 -- ---- the end
 
-pub retracting-all : (s state : Controller) (cycles k : ℕ) → Retracting s state cycles k → s .m ≤ k → AfterRetractions s (record { state = state; cycles = cycles })
+pub retracting-all :
+    (s state : Controller) (cycles k : ℕ) → Retracting s state cycles k → s .m ≤ k → AfterRetractions s (reachedWith state cycles)
 retracting-all s state cycles k r h =
     record {
       state-is = r .ran .state-is;
       each-retracts = r .ran .counted;
       consistent = r .consistent;
-      delivering = clean-delivering (r .all-dirty) (λ j p. r .clean j (omega arith));
-      n-same = r .n-same;
-      m-same = r .m-same;
+      delivering = clean-delivering (r .all-dirty) (λ j p. r .clean j (omega (arith, ran-m (r .ran))));
+      n-same = ran-n (r .ran);
+      m-same = ran-m (r .ran);
       cycles-le = omega arith;
     }

@@ -1,4 +1,5 @@
--- The retracting phase goes over into the delivering one: each retraction empties a dirty box, and every filled box is dirty. Assumes nothing.
+-- The retracting phase goes over into the delivering one: each retraction empties a dirty box, and every filled box is dirty.
+-- Assumes nothing.
 --   dirtyBoxes s       how many boxes are dirty
 --   retractions-end    settling ends, with at most m retractions and m deliveries
 use Prim.Native.Nat.{ℕ, zero, suc, _+_, _*_, _<_, _≤_}
@@ -14,11 +15,12 @@ use Rattle.model.specs.Settling.{retract}
 use Rattle.lists.proofs.Bools.{clash, confirmed}
 use Rattle.lists.proofs.Counting.{reached, reached-le, reached-more}
 use Rattle.model.specs.WellFormed.{Consistent}
-use Rattle.settling.specs.Phases.{AllDirty, Delivering}
-use Rattle.settling.proofs.Writes.{core-retract-same, core-retract-other, retract-sizes}
+use Rattle.settling.specs.Phases.{AllDirty, Delivering, Ended}
+use Rattle.settling.proofs.Writes.{core-retract-same, core-retract-other}
+use Rattle.settling.proofs.Keeps.{retract-keeps, kept-n, kept-m}
 use Rattle.settling.proofs.Retract.{retract-consistent, retract-allDirty, retract-claimed}
 use Rattle.settling.proofs.Next.{Clean, Next, resting, retracting, arbitrating, next-cases}
-use Rattle.settling.proofs.Run.{Ended, ended-step, ended-within}
+use Rattle.settling.proofs.Run.{ended-step, ended-within}
 use Rattle.settling.proofs.Deliveries.{deliveries-end}
 
 -- 1 for a dirty box, 0 for a clean one
@@ -46,7 +48,7 @@ module _ (s : Controller) (c : Consistent s) (k : ℕ) (h : k < s .m) (dirty : (
 
   fewer-dirty : dirtyBoxes (retract s k) < dirtyBoxes s
   fewer-dirty =
-      rw (retract-sizes s k .1)
+      rw (kept-m s (retract s k) (retract-keeps s k))
       (reached-more 1 1 (mark (retract s k)) (mark s) (s .m) (λ j p. mark-retract j) k h
       (rw (core-retract-same s k (omega (arith, c .cores-length, c .m-le))) (omega arith))
       (rw dirty (omega arith)))
@@ -60,14 +62,16 @@ dirty-end (suc f) s c all enough = go (next-cases s (c .some-source) (c .some-co
         ended-within (deliveries-end s c (clean-delivering all clean) (suc f) (omega arith)) (dirtyBoxes s) (s .m)
         (omega arith) (omega arith)
 
-    go : Next s → ((s′ : Controller) → Consistent s′ → AllDirty s′ → dirtyBoxes s′ + s′ .m ≤ f → Ended s′ f (dirtyBoxes s′) (s′ .m)) → Ended s (suc f) (dirtyBoxes s) (s .m)
+    go :
+        Next s → ((s′ : Controller) → Consistent s′ → AllDirty s′ → dirtyBoxes s′ + s′ .m ≤ f → Ended s′ f (dirtyBoxes s′) (s′ .m)) →
+        Ended s (suc f) (dirtyBoxes s) (s .m)
     go (resting e clean st) rest = delivered clean
     go (arbitrating i k e clean con) rest = delivered clean
     go (retracting k e h dirty) rest =
         let fewer : dirtyBoxes (retract s k) < dirtyBoxes s = fewer-dirty s c k h dirty in
-        let same : (retract s k) .m ≡ s .m = retract-sizes s k .1 in
+        let same : (retract s k) .m ≡ s .m = kept-m s (retract s k) (retract-keeps s k) in
         ended-within
-        (ended-step s (Retract (coreId k)) e (retract-sizes s k .0) (retract-claimed s k c h)
+        (ended-step s (Retract (coreId k)) e (kept-n s (retract s k) (retract-keeps s k)) (retract-claimed s k c h)
         (rest (retract s k) (retract-consistent s k c h) (retract-allDirty s k c h all) (omega arith)))
         (dirtyBoxes s) (s .m) (omega arith) (omega arith)
 

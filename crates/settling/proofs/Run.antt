@@ -1,6 +1,5 @@
--- A run of cycles, one cycle at a time: what it needs to end well at rest. Assumes nothing.
---   Ended s f r d   f cycles from s end in a sound state at rest, with at most r retractions and d deliveries, and no request claimed or let go
---   settle-rest     at rest the state stays as it is; `count-rest`: and nothing is counted
+-- A run of cycles, one cycle at a time: what it needs to end well at rest (`Ended`). Assumes nothing.
+--   settle-rest     at rest the state stays as it is; `count-rest`, `cyclesOf-rest`: and nothing is counted
 --   ended-here      so a state at rest has ended, for any number of cycles
 --   ended-step      one cycle more in front
 --   ended-within    larger bounds
@@ -12,14 +11,8 @@ use Rattle.model.specs.declared.Cycle.{Cycle}
 use Rattle.model.specs.declared.Cycle.the-variants.{Rest}
 use Rattle.model.specs.Requests.{claimed}
 use Rattle.model.specs.WellFormed.{WellFormed}
-use Rattle.model.specs.Settling.{next, apply, cycle, settle, isRetraction, isDelivery, countOf}
-
-pub record Ended (s : Controller) (f r d : ℕ) : Type 0 where
-  pub wellFormed : WellFormed (settle f s)
-  pub rests : next (settle f s) ≡ Rest
-  pub retractions : countOf isRetraction f s ≤ r
-  pub deliveries : countOf isDelivery f s ≤ d
-  pub claimed-kept : (i : ℕ) → i < s .n → claimed (settle f s) i ≡ claimed s i
+use Rattle.model.specs.Settling.{next, apply, cycle, settle, isRetraction, isDelivery, countOf, cyclesOf}
+use Rattle.settling.specs.Phases.{Ended}
 
 pub cycle-is : (s : Controller) (c : Cycle) → next s ≡ c → cycle s ≡ apply c s
 unfolding cycle
@@ -37,6 +30,10 @@ module _ (s : Controller) (rest : next s ≡ Rest) where
   unfolding countOf
   count-rest kind e zero = refl
   count-rest kind e (suc f) = rw (cycle-is s Rest rest, rest, e) (omega (arith, count-rest kind e f))
+
+  pub cyclesOf-rest : (f : ℕ) → cyclesOf f s ≡ 0
+  unfolding cyclesOf
+  cyclesOf-rest f = omega (arith, count-rest isRetraction refl f, count-rest isDelivery refl f)
 
   pub ended-here : WellFormed s → (f : ℕ) → Ended s f 0 0
   ended-here w f =
@@ -59,7 +56,9 @@ module _ (s : Controller) (c : Cycle) (e : next s ≡ c) where
   unfolding countOf
   count-step kind f = rw (cycle-is s c e, e)
 
-  pub ended-step : (apply c s) .n ≡ s .n → ((i : ℕ) → i < s .n → claimed (apply c s) i ≡ claimed s i) → {f r d : ℕ} → Ended (apply c s) f r d → Ended s (suc f) (isRetraction c + r) (isDelivery c + d)
+  pub ended-step :
+      (apply c s) .n ≡ s .n → ((i : ℕ) → i < s .n → claimed (apply c s) i ≡ claimed s i) → {f r d : ℕ} → Ended (apply c s) f r d →
+      Ended s (suc f) (isRetraction c + r) (isDelivery c + d)
   ended-step n-same kept {f} {r} {d} end =
       record {
         wellFormed = rw settle-step (end .wellFormed);

@@ -7,11 +7,9 @@ use Prim.Native.Nat.{ℕ, _+_, _-_, _<_}
 use mathlib.Core.Path.{_≡_, _∙_, ap}
 use mathlib.Core.List.{List}
 use mathlib.Core.Bool.{true, false, and-false}
-use lib.ListN.{length, getD, set, length-set}
-use lib.Seq.{getD-set-same, getD-set-other}
+use lib.ListN.{length, set, length-set}
 use native.Mathlib.Omega.{arith}
 use native.Mathlib.Numerals.{add-one, sub-one}
-use native.Mathlib.Decide.{ℕ-discrete}
 use Rattle.model.specs.declared.Source.{Source}
 use Rattle.model.specs.declared.Core.{Core}
 use Rattle.model.specs.declared.Controller.{Controller}
@@ -20,18 +18,11 @@ use Rattle.model.specs.Requests.{currentPriority}
 use Rattle.model.specs.Arbitration.{rank}
 use Rattle.model.specs.Settling.{putBack, deliver}
 use Rattle.model.specs.WellFormed.{Holding}
-use Rattle.settling.specs.Runs.{RanksOf}
+use Rattle.lists.proofs.Filling.{filled-written}
+use Rattle.arbitration.specs.Keys.{RanksOf}
 use Rattle.settling.proofs.Arbitrated.{Arbitrated, index-in, number-in, not-held}
 use Rattle.settling.proofs.Writes.{putBackAt-unnamed, source-putBack, length-putBack, delivered-to}
 use Rattle.settling.proofs.Keyed.{Keyed}
-
--- a record and its key stored at the same index
-both-stored : {A : Type 0} (f : A → ℕ) (d : A) (l : List A) (ks : List ℕ) (n i : ℕ) (x : A) (v : ℕ) → i < length l → i < length ks → v ≡ f x → ((j : ℕ) → j < n → getD ks j 0 ≡ f (getD l j d)) → (j : ℕ) → j < n → getD (set ks i v) j 0 ≡ f (getD (set l i x) j d)
-both-stored f d l ks n i x v h h′ e keys j p = go (ℕ-discrete j i)
-  where
-    go : Dec (j ≡ i) → getD (set ks i v) j 0 ≡ f (getD (set l i x) j d)
-    go (yes q) = rw (q, getD-set-same ks i v 0 h′, getD-set-same l i x d h) e
-    go (no q) = rw (getD-set-other ks i j v 0 q, getD-set-other l i j x d q) (keys j p)
 
 rank-delivered : (r : Source) → 0 ≡ rank (withDelivered true r)
 rank-delivered r = simp and-false
@@ -50,25 +41,26 @@ module _ {s : Controller} {i k : ℕ} (a : Arbitrated s i k) {ks cs : List ℕ} 
 
   module _ (filled : (coreAt s k) .message .filled ≡ true) where
     pub evicted : Holding s (coreAt s k)
-    evicted = a .consistent .backed k (a .core-in) filled
+    evicted = a .consistent .backed k (a .won .core-in) filled
 
     pub old-in : old < maxSources
     old-in = omega (arith, evicted .some-id, evicted .id-le, a .consistent .n-le)
 
-    written-back : (v : ℕ) → v ≡ rank (withDelivered false (sourceAt s old)) → PutBack s k (set ks old v) (withSource s old (withDelivered false (sourceAt s old)))
+    written-back :
+        (v : ℕ) → v ≡ rank (withDelivered false (sourceAt s old)) →
+        PutBack s k (set ks old v) (withSource s old (withDelivered false (sourceAt s old)))
     written-back v e =
         record {
           state-is = rw (sub-one, filled);
           ranks =
-              both-stored rank noSource (s .sources) ks (s .n) old (withDelivered false (sourceAt s old)) v
-              (omega (arith, old-in, a .consistent .sources-length))
-              (omega (arith, old-in, keyed .keys-length))
-              e
-              (keyed .ranks);
+              filled-written rank noSource (s .sources) (s .n) ks (keyed .ranks) old (withDelivered false (sourceAt s old)) v
+              (omega (arith, old-in, a .consistent .sources-length)) (omega (arith, old-in, keyed .keys-length)) e;
           keys-length = length-set ks old v ∙ keyed .keys-length;
         }
 
-    pub back-filled : (v : ℕ) → v ≡ rank (withDelivered false (sourceAt s old)) → (ks₁ : List ℕ) (s₁ : Controller) → ks₁ ≡ set ks old v → s₁ ≡ withSource s old (withDelivered false (sourceAt s old)) → PutBack s k ks₁ s₁
+    pub back-filled :
+        (v : ℕ) → v ≡ rank (withDelivered false (sourceAt s old)) → (ks₁ : List ℕ) (s₁ : Controller) → ks₁ ≡ set ks old v →
+        s₁ ≡ withSource s old (withDelivered false (sourceAt s old)) → PutBack s k ks₁ s₁
     back-filled v e ks₁ s₁ p q = rw (p, q) (written-back v e)
 
   pub back-empty : (coreAt s k) .message .filled ≡ false → (ks₁ : List ℕ) (s₁ : Controller) → ks₁ ≡ ks → s₁ ≡ s → PutBack s k ks₁ s₁
@@ -83,9 +75,11 @@ module _ {s : Controller} {i k : ℕ} (a : Arbitrated s i k) {ks cs : List ℕ} 
     source-same =
         rw (b .state-is)
         (source-putBack ((coreAt s k) .message) (s .sources) i ∙
-        putBackAt-unnamed ((coreAt s k) .message) i (sourceAt s i) (not-held a k (a .core-in)))
+        putBackAt-unnamed ((coreAt s k) .message) i (sourceAt s i) (not-held a k (a .won .core-in)))
 
-    pub stores-are : (d : Core) → d ≡ coreWith ((coreAt s k) .configured) (holding (sourceId (i + 1)) ((sourceAt s₁ i) .priority)) → withCore (withSource s₁ i (withDelivered true (sourceAt s₁ i))) k d ≡ deliver s i k
+    pub stores-are :
+        (d : Core) → d ≡ coreWith ((coreAt s k) .configured) (holding (sourceId (i + 1)) ((sourceAt s₁ i) .priority)) →
+        withCore (withSource s₁ i (withDelivered true (sourceAt s₁ i))) k d ≡ deliver s i k
     unfolding deliver
     stores-are d e = rw (e, source-same, b .state-is, add-one)
 
@@ -94,17 +88,15 @@ module _ {s : Controller} {i k : ℕ} (a : Arbitrated s i k) {ks cs : List ℕ} 
     keyed-delivered =
         record {
           ranks =
-              both-stored rank noSource (putBack ((coreAt s k) .message) (s .sources)) ks₁ (s .n) i (withDelivered true (sourceAt s i)) 0
-              (rw length-putBack (index-in a))
-              (omega (arith, b .keys-length, a .source-in, a .consistent .n-le))
-              (rank-delivered (sourceAt s i))
-              (rw (b .state-is) at (b .ranks));
+              filled-written rank noSource (putBack ((coreAt s k) .message) (s .sources)) (s .n) ks₁ (rw (b .state-is) at (b .ranks))
+              i (withDelivered true (sourceAt s i)) 0
+              (rw length-putBack (index-in a)) (omega (arith, b .keys-length, a .won .source-in, a .consistent .n-le))
+              (rank-delivered (sourceAt s i));
           currents =
-              both-stored currentPriority noCore (s .cores) cs (s .m) k (delivered-to s i k) ((sourceAt s₁ i) .priority)
-              (number-in a)
-              (omega (arith, keyed .currents-length, a .core-in, a .consistent .m-le))
-              (ap (λ (r : Source). r .priority) source-same)
-              (keyed .currents);
+              filled-written currentPriority noCore (s .cores) (s .m) cs (keyed .currents) k (delivered-to s i k)
+              ((sourceAt s₁ i) .priority)
+              (number-in a) (omega (arith, keyed .currents-length, a .won .core-in, a .consistent .m-le))
+              (ap (λ (r : Source). r .priority) source-same);
           keys-length = length-set ks₁ i 0 ∙ b .keys-length;
           currents-length = length-set cs k ((sourceAt s₁ i) .priority) ∙ keyed .currents-length;
         }

@@ -1,13 +1,12 @@
--- What is read after a retraction or a delivery: each core, each source, the sizes. Assumes nothing.
+-- What is read after a retraction or a delivery: each core, each source. Assumes nothing.
 --   Names b j                a filled box b names source j + 1
 --   putBackAt b j r          source r at index j once box b is put back: the mark goes at the one index that a filled b names
 --   core-.., source-..       a core and a source of `retract s k` and of `deliver s i k`, at the index written and at others
---   unmarked-..              but for its delivered mark, every source is as it was
 use Prim.Native.Nat.{ℕ, zero, suc, _<_}
-use mathlib.Core.Path.{_≡_, refl, sym, _∙_, ap}
+use mathlib.Core.Path.{_≡_, refl, sym, _∙_}
 use mathlib.Core.Logic.{_≢_}
 use mathlib.Core.List.{List, [], _∷_}
-use mathlib.Core.Bool.{Bool, true, false, _&&_, cond}
+use mathlib.Core.Bool.{true, false, _&&_, cond}
 use lib.ListN.{length, getD, set, length-set}
 use lib.Seq.{getD-set-same, getD-set-other}
 use lib.Dec.{eqb}
@@ -20,7 +19,6 @@ use Rattle.model.specs.declared.Controller.{Controller}
 use Rattle.model.specs.Records.{noSource, noCore, sourceId, indexOf, withDelivered, emptyBox, holding, coreWith, sourceAt, coreAt}
 use Rattle.model.specs.Settling.{putBack, retract, deliver}
 use Rattle.lists.proofs.Bools.{clash, Flag, on, off, flag}
-use Rattle.lists.proofs.Writes.{read-kept}
 
 -- ---- a store of what becomes of an element
 
@@ -31,7 +29,9 @@ module _ {A : Type 0} where
   changed-same f d e (x ∷ xs) zero = refl
   changed-same f d e (x ∷ xs) (suc i) = changed-same f d e xs i
 
-  changed-at : (f : A → A) (d : A) → f d ≡ d → (l : List A) (i j : ℕ) → getD (set l i (f (getD l i d))) j d ≡ cond (eqb j i) (f (getD l j d)) (getD l j d)
+  changed-at :
+      (f : A → A) (d : A) → f d ≡ d → (l : List A) (i j : ℕ) →
+      getD (set l i (f (getD l i d))) j d ≡ cond (eqb j i) (f (getD l j d)) (getD l j d)
   changed-at f d e l i j = go (flag (eqb j i))
     where
       go : Flag (eqb j i) → getD (set l i (f (getD l i d))) j d ≡ cond (eqb j i) (f (getD l j d)) (getD l j d)
@@ -89,14 +89,6 @@ length-putBack b l = go (flag (b .filled))
     go (on p) = rw p (length-set l (indexOf (b .source)) (withDelivered false (getD l (indexOf (b .source)) noSource)))
     go (off p) = rw p
 
--- but for its mark, a source is as it was
-unmarked-putBack : (b : MessageBox) (l : List Source) (j : ℕ) → withDelivered false (getD (putBack b l) j noSource) ≡ withDelivered false (getD l j noSource)
-unmarked-putBack b l j = ap (withDelivered false) (source-putBack b l j) ∙ go (b .filled && eqb j (indexOf (b .source)))
-  where
-    go : (t : Bool) → withDelivered false (cond t (withDelivered false (getD l j noSource)) (getD l j noSource)) ≡ withDelivered false (getD l j noSource)
-    go true = refl
-    go false = refl
-
 -- ---- after a retraction
 
 module _ (s : Controller) (k : ℕ) where
@@ -108,29 +100,9 @@ module _ (s : Controller) (k : ℕ) where
   unfolding retract
   core-retract-other j q = getD-set-other (s .cores) k j (coreWith ((coreAt s k) .configured) emptyBox) noCore q
 
-  pub core-retract-configured : (j : ℕ) → (coreAt (retract s k) j) .configured ≡ (coreAt s j) .configured
-  unfolding retract
-  core-retract-configured j =
-      read-kept (λ i c. c .configured) (s .cores) k j (coreWith ((coreAt s k) .configured) emptyBox) noCore refl
-
   pub source-retract : (j : ℕ) → sourceAt (retract s k) j ≡ putBackAt ((coreAt s k) .message) j (sourceAt s j)
   unfolding retract
   source-retract j = source-putBack ((coreAt s k) .message) (s .sources) j
-
-  pub unmarked-retract : (j : ℕ) → withDelivered false (sourceAt (retract s k) j) ≡ withDelivered false (sourceAt s j)
-  unfolding retract
-  unmarked-retract j = unmarked-putBack ((coreAt s k) .message) (s .sources) j
-
-  pub retract-sizes : ((retract s k) .n ≡ s .n) × ((retract s k) .m ≡ s .m)
-  unfolding retract
-  retract-sizes = (refl, refl)
-
-  pub retract-lengths : (length ((retract s k) .sources) ≡ length (s .sources)) × (length ((retract s k) .cores) ≡ length (s .cores))
-  unfolding retract
-  retract-lengths = (
-    length-putBack ((coreAt s k) .message) (s .sources),
-    length-set (s .cores) k (coreWith ((coreAt s k) .configured) emptyBox),
-  )
 
 -- ---- after a delivery
 
@@ -147,10 +119,6 @@ module _ (s : Controller) (i k : ℕ) where
   unfolding deliver
   core-deliver-other j q = getD-set-other (s .cores) k j (delivered-to s i k) noCore q
 
-  pub core-deliver-configured : (j : ℕ) → (coreAt (deliver s i k) j) .configured ≡ (coreAt s j) .configured
-  unfolding deliver
-  core-deliver-configured j = read-kept (λ x c. c .configured) (s .cores) k j (delivered-to s i k) noCore refl
-
   pub source-deliver-same : i < length (s .sources) → sourceAt (deliver s i k) i ≡ withDelivered true (sourceAt s i)
   unfolding deliver
   source-deliver-same h =
@@ -163,22 +131,3 @@ module _ (s : Controller) (i k : ℕ) where
   source-deliver-other j q =
       getD-set-other (putBack ((coreAt s k) .message) (s .sources)) i j (withDelivered true (sourceAt s i)) noSource q ∙
       source-putBack ((coreAt s k) .message) (s .sources) j
-
-  pub unmarked-deliver : (j : ℕ) → withDelivered false (sourceAt (deliver s i k) j) ≡ withDelivered false (sourceAt s j)
-  unfolding deliver
-  unmarked-deliver j =
-      read-kept (λ x r. withDelivered false r) (putBack ((coreAt s k) .message) (s .sources)) i j (withDelivered true (sourceAt s i)) noSource
-      (sym (unmarked-putBack ((coreAt s k) .message) (s .sources) i)) ∙
-      unmarked-putBack ((coreAt s k) .message) (s .sources) j
-
-  pub deliver-sizes : ((deliver s i k) .n ≡ s .n) × ((deliver s i k) .m ≡ s .m)
-  unfolding deliver
-  deliver-sizes = (refl, refl)
-
-  pub deliver-lengths : (length ((deliver s i k) .sources) ≡ length (s .sources)) × (length ((deliver s i k) .cores) ≡ length (s .cores))
-  unfolding deliver
-  deliver-lengths = (
-    length-set (putBack ((coreAt s k) .message) (s .sources)) i (withDelivered true (sourceAt s i)) ∙
-        length-putBack ((coreAt s k) .message) (s .sources),
-    length-set (s .cores) k (delivered-to s i k),
-  )

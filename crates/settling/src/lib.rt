@@ -1,55 +1,22 @@
 // Settling: the retractions, then the deliveries. Calls for the commands, which hand over a state in the right phase.
 ghost use Prim.Native.Nat.{_≤_};
-ghost use mathlib.Core.Path.{_≡_};
-ghost use Rattle.model.specs.Records.{maxSources, maxCores};
+ghost use Rattle.model.specs.Records.{maxCores};
 ghost use Rattle.model.specs.WellFormed.{Consistent};
 ghost use Rattle.settling.specs.Phases.{AllDirty, Delivering};
-ghost use Rattle.settling.specs.Runs.{RanksOf, CurrentsOf, AfterRetractions, AfterDeliveries};
-use model::Answer;
+ghost use Rattle.settling.specs.Runs.{AfterRetractions, AfterDeliveries};
 use model::CORES;
 use model::Controller;
-use model::Core;
 use model::SOURCES;
-use model::Source;
 use model::SourceId;
 
-// A state in which no box is dirty, and the retractions that it took to come there.
-pub struct Retracted {
+// A state that settling has come to, and the cycles since the command's own effect.
+pub struct Reached {
     pub state: Controller,
     pub cycles: u16,
 }
 
-// What the comparator tree compares: made once a command, and kept up by each delivery.
-fn ranks(sources: [Source; SOURCES], n: usize) -> [u32; SOURCES]
-    requires { ⌜ n ≤ maxSources ⌝ }
-    ensures { λ r. ⌜ RanksOf sources n r ⌝ }
-{
-    let mut keys = [0u32; SOURCES];
-    let mut i = 0;
-    while i < n {
-        keys[i] = records::rank(sources[i]);
-        i += 1;
-    }
-    keys
-}
-
-fn current_priorities(cores: [Core; CORES], m: usize) -> [u16; CORES]
-    requires { ⌜ m ≤ maxCores ⌝ }
-    ensures { λ r. ⌜ CurrentsOf cores m r ⌝ }
-{
-    let mut currents = [0u16; CORES];
-    let mut k = 0;
-    while k < m {
-        currents[k] = records::current_priority(cores[k]);
-        k += 1;
-    }
-    currents
-}
-
-// Step 1, to its end: one dirty box a cycle, lowest core first. Its source becomes waiting, the box empty. The contract fixes the
-// answer (`RetractionsDetermined`).
-// Rules out: a retracted request that stays delivered (`retracted_kept`); a retraction that is not counted (`retraction_free`).
-pub fn retract_all(s: Controller) -> Retracted
+// Step 1, to its end: one dirty box a cycle, lowest core first. Its source becomes waiting, the box empty.
+pub fn retract_all(s: Controller) -> Reached
     requires { ⌜ Consistent s × AllDirty s ⌝ }
     ensures { λ r. ⌜ AfterRetractions s r ⌝ }
 {
@@ -69,22 +36,29 @@ pub fn retract_all(s: Controller) -> Retracted
         }
         k += 1;
     }
-    Retracted { state, cycles }
+    Reached { state, cycles }
 }
 
 // Step 2, to its end: one delivery a cycle, the highest candidate to the least core, while it is strictly above. spent is the
-// number of cycles that went before.
-// Rules out: comparing with "at least" (`at_least`); an evicted request that is lost (`evicted_lost`).
-pub fn deliver_all(s: Controller, id: SourceId, spent: u16) -> Answer
+// number of cycles that went before; the answer's count goes on from it.
+pub fn deliver_all(s: Controller, spent: u16) -> Reached
     requires { ⌜ Consistent s × Delivering s × (spent ≤ maxCores) ⌝ }
-    ensures { λ r. ⌜ AfterDeliveries s (id .0) spent r ⌝ }
+    ensures { λ r. ⌜ AfterDeliveries s spent r ⌝ }
 {
     let n = s.n as usize;
     let m = s.m as usize;
-    let sources = s.sources;
-    let cores = s.cores;
-    let mut keys = ranks(sources, n);
-    let mut currents = current_priorities(cores, m);
+    let mut keys = [0u32; SOURCES];
+    let mut i = 0;
+    while i < n {
+        keys[i] = records::rank(s.sources[i]);
+        i += 1;
+    }
+    let mut currents = [0u16; CORES];
+    let mut j = 0;
+    while j < m {
+        currents[j] = records::current_priority(s.cores[j]);
+        j += 1;
+    }
     let mut state = s;
     let mut t = 0u16;
     while t < s.m {
@@ -109,10 +83,8 @@ pub fn deliver_all(s: Controller, id: SourceId, spent: u16) -> Answer
         currents[k] = r.priority;
         t += 1;
     }
-    Answer {
+    Reached {
         state,
-        number: 0,
-        id,
         cycles: spent + t,
     }
 }

@@ -17,11 +17,12 @@ use Rattle.model.specs.declared.Command.{Command}
 use Rattle.model.specs.declared.Answer.{Answer}
 use Rattle.model.specs.Commands.{effect, settled, refused, execute, run}
 use Rattle.model.specs.Ledger.{answersTo, paired, entries}
-use Rattle.model.specs.Bytes.{wordAt, answerSize, answerBytes, entriesIn}
+use Rattle.layout.specs.Bytes.{wordAt, answerSize, answerBytes, entriesIn}
 use Rattle.lists.specs.Rows.{joined}
 use Rattle.encoding.proofs.Records.{word-back}
 use Rattle.lists.proofs.Rows.{length-joined}
-use Rattle.settling.proofs.Keeps.{settle-keeps}
+use Rattle.model.specs.Settling.{settle}
+use Rattle.settling.proofs.Keeps.{kept-m, settling-leaves-bare}
 use Rattle.effects.proofs.Accepted.{by-answer}
 use Rattle.effects.proofs.Effects.{effect-m}
 use Rattle.effects.proofs.Kept.{cycles-bounded}
@@ -68,7 +69,7 @@ kept-refused s (c ∷ cs) rest h =
 
 execute-m : (s : Controller) (c : Command) → (execute s c) .state .m ≡ s .m
 unfolding settled refused
-execute-m s c = by-answer s c (λ a. a .state .m ≡ s .m) (λ e. (settle-keeps _ (effect s c)) .m-same ∙ effect-m s c) (λ h. refl)
+execute-m s c = by-answer s c (λ a. a .state .m ≡ s .m) (λ e. kept-m (effect s c) (settle (2 * (effect s c) .m) (effect s c)) (settling-leaves-bare (2 * (effect s c) .m) (effect s c)) ∙ effect-m s c) (λ h. refl)
 
 pub cycles-told :
     (m : ℕ) (s : Controller) (cs : List Command) (rest : List ℕ) → s .m ≡ m → (i : ℕ) → i < length cs →

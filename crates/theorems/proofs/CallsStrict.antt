@@ -7,21 +7,22 @@ use Rattle.model.specs.Behaviours.{answersBy, runBy}
 use Rattle.theorems.proofs.DemandThree.{reset-strict}
 use Rattle.model.specs.declared.Controller.{Controller}
 use Rattle.model.specs.declared.Command.{Command}
-use Rattle.model.specs.declared.Command.the-variants.{SetSourcePriority, Mask, Unmask, SetCorePriority, Trigger, Claim, Redeliver, Complete}
+use Rattle.model.specs.declared.Command.the-variants.{OnSource, OnCore}
+use Rattle.model.specs.declared.CoreAction.the-variants.{SetCorePriority, Claim}
 use Rattle.model.specs.Records.{maxSources, reset}
 use Rattle.model.specs.WellFormed.{WellFormed}
 use Rattle.model.specs.Commands.{refusal, answeredId, settled, refused, execute, run}
 use Rattle.model.specs.Ledger.{Entry, entryWith, paired, entries}
-use Rattle.model.specs.Bytes.{stateBytes, stateFrom, packed, numberIn, idIn, cyclesIn, callOf, executeCall}
-use Rattle.soundness.proofs.Reset.{reset-wellFormed}
+use Rattle.layout.specs.Bytes.{stateBytes, stateFrom, packed, numberIn, idIn, cyclesIn, callOf, executeCall}
+use Rattle.well_formed.proofs.Reset.{reset-wellFormed}
 use Rattle.effects.proofs.Accepted.{by-answer}
 use Rattle.effects.proofs.Checked.{accepted}
 use Rattle.effects.proofs.Kept.{wellFormed-kept}
-use Rattle.theorems.proofs.Refusals.{refusals-exact}
-use Rattle.encoding.specs.Statements.{Sized}
+use Rattle.theorems.proofs.Refusals.{at-most-eight}
+use Rattle.layout.specs.Statements.{Sized}
 use Rattle.encoding.proofs.RoundTrip.{state-read-back, state-encoded}
 use Rattle.encoding.proofs.Commands.{named, packed-read}
-use Rattle.exports.specs.Statements.{ExecuteTells, calling, afterCalls, toldByCalls, CallsStrict}
+use Rattle.layout.specs.CallStatements.{ExecuteTells, calling, afterCalls, toldByCalls, CallsStrict}
 use Rattle.theorems.proofs.RunStrict.{sized, run-wellFormed, fresh}
 
 -- ---- what a call tells
@@ -29,16 +30,11 @@ use Rattle.theorems.proofs.RunStrict.{sized, run-wellFormed, fresh}
 -- only a claim answers an id, that of the source which its box names
 answered-id : (s : Controller) (c : Command) → refusal s c ≡ 0 → answeredId s c ≤ maxSources
 unfolding answeredId
-answered-id s (SetSourcePriority id p) e = omega arith
-answered-id s (Mask id) e = omega arith
-answered-id s (Unmask id) e = omega arith
-answered-id s (SetCorePriority k p) e = omega arith
-answered-id s (Trigger id) e = omega arith
-answered-id s (Claim k) e =
-    let (w, claim) = accepted s (Claim k) e in
+answered-id s (OnSource id a) e = omega arith
+answered-id s (OnCore k (SetCorePriority p)) e = omega arith
+answered-id s (OnCore k Claim) e =
+    let (w, claim) = accepted s (OnCore k Claim) e in
     omega (arith, (w .consistent .backed (k .0) (claim .0) (claim .1)) .id-le, w .consistent .n-le)
-answered-id s (Redeliver id) e = omega arith
-answered-id s (Complete id) e = omega arith
 
 id-fits : (s : Controller) (c : Command) → (execute s c) .id .0 < 2 ^ 16
 unfolding settled refused
@@ -49,7 +45,7 @@ tells :
     let told = packed (execute s c) in
     (numberIn told ≡ (execute s c) .number) × (idIn told ≡ (execute s c) .id .0) × (cyclesIn told ≡ (execute s c) .cycles)
 tells s c =
-    packed-read (execute s c) (omega (arith, (refusals-exact s c) .at-most-eight)) (id-fits s c)
+    packed-read (execute s c) (omega (arith, at-most-eight s c)) (id-fits s c)
 
 pub execute-tells : ExecuteTells
 unfolding executeCall

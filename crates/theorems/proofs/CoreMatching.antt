@@ -86,7 +86,9 @@ module _ (n m : ℕ) (b : Ledger) (s : Controller) (M : Matches n m b s) (W : We
         boxed-agree (claimedCores s k) (s .cores) (s .m) (suc j)
         (λ x h. read-kept (λ y c. holds (suc j) c) (s .cores) k x (claimedCore (coreAt s k)) noCore (rw (filled, names, ne-eqb (suc i) (suc j) (omega arith))))
 
-    request-claimed : (j : ℕ) → j < n → write (b .request) (suc i) (claimedRequest (priorityOf (b .request (suc i)))) (suc j) ≡ requestOf (withCores s (claimedCores s k)) j
+    request-claimed :
+        (j : ℕ) → j < n →
+        write (b .request) (suc i) (claimedRequest (priorityOf (b .request (suc i)))) (suc j) ≡ requestOf (withCores s (claimedCores s k)) j
     request-claimed j h = go (ℕ-discrete j i)
       where
         go : Dec (j ≡ i) → write (b .request) (suc i) (claimedRequest (priorityOf (b .request (suc i)))) (suc j) ≡ requestOf (withCores s (claimedCores s k)) j

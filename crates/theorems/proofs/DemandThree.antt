@@ -13,7 +13,7 @@ use Rattle.model.specs.Records.{resetSource, sourceAt, reset}
 use Rattle.model.specs.WellFormed.{WellFormed}
 use Rattle.model.specs.Commands.{execute, run}
 use Rattle.model.specs.Statements.{InRange, PriorityStrict, EveryListStrict, DemandThree}
-use Rattle.soundness.proofs.Reset.{core-reset, source-reset, reset-wellFormed, makes-exactly}
+use Rattle.well_formed.proofs.Reset.{core-reset, source-reset, reset-wellFormed, makes-exactly}
 use Rattle.effects.proofs.Kept.{wellFormed-kept, nothing-cut-short, cycles-bounded}
 use Rattle.theorems.specs.Matches.{Matches}
 use Rattle.theorems.proofs.Matching.{match-kept}
@@ -33,7 +33,9 @@ opening-matches n m R =
     }
 
 -- from a sound state that the ledger matches
-run-matches : (n m : ℕ) (b : Ledger) (s : Controller) (cs : List Command) → WellFormed s → Matches n m b s → WellFormed (run s cs) × Matches n m (ledger b (entries s cs)) (run s cs)
+run-matches :
+    (n m : ℕ) (b : Ledger) (s : Controller) (cs : List Command) → WellFormed s → Matches n m b s →
+    WellFormed (run s cs) × Matches n m (ledger b (entries s cs)) (run s cs)
 unfolding ledger answersBy paired runBy
 run-matches n m b s [] W M = (W, M)
 run-matches n m b s (c ∷ cs) W M =

@@ -10,7 +10,9 @@ use borrow.Author.Tests.{eqb-false, ne-eqb}
 use Rattle.model.specs.declared.Controller.{Controller}
 use Rattle.model.specs.declared.Answer.{Answer}
 use Rattle.model.specs.declared.Command.{Command}
-use Rattle.model.specs.declared.Command.the-variants.{SetSourcePriority, SetCorePriority, Trigger}
+use Rattle.model.specs.declared.Command.the-variants.{OnSource, OnCore}
+use Rattle.model.specs.declared.SourceAction.the-variants.{SetSourcePriority, Trigger}
+use Rattle.model.specs.declared.CoreAction.the-variants.{SetCorePriority}
 use Rattle.model.specs.Records.{sourceId, coreId, sourceAt, answer}
 use Rattle.model.specs.Commands.{execute}
 use Rattle.model.specs.Behaviours.{Behaviour}
@@ -33,25 +35,26 @@ module _ (x : Behaviour) (s : Controller) (c : Command) where
 -- T2 is accepted
 pub refuseEverything-fails-refusals : (number : ℕ) → number ≢ 0 → ¬ RefusalsExact (refuseEverything number)
 unfolding computed
-refuseEverything-fails-refusals number other = fails-refusals (refuseEverything number) start (Trigger (sourceId 4)) (ne-eqb number 0 other)
+refuseEverything-fails-refusals number other =
+    fails-refusals (refuseEverything number) start (OnSource (sourceId 4) Trigger) (ne-eqb number 0 other)
 
 -- core 2 of two
 pub coreAsSource-fails-refusals : ¬ RefusalsExact coreAsSource
 unfolding computed
-coreAsSource-fails-refusals = fails-refusals coreAsSource start (SetCorePriority (coreId 2) 0) refl
+coreAsSource-fails-refusals = fails-refusals coreAsSource start (OnCore (coreId 2) (SetCorePriority 0)) refl
 
 -- id 33 of 32, with priority 0
 pub priorityFirst-fails-refusals : ¬ RefusalsExact priorityFirst
 unfolding computed
-priorityFirst-fails-refusals = fails-refusals priorityFirst start (SetSourcePriority (sourceId 33) 0) refl
+priorityFirst-fails-refusals = fails-refusals priorityFirst start (OnSource (sourceId 33) (SetSourcePriority 0)) refl
 
 -- id 33 of 32: source 4 had priority 4, and has 1
 pub freshWhenRefused-fails-unchanged : ¬ RefusedUnchanged freshWhenRefused
 unfolding computed
 freshWhenRefused-fails-unchanged =
-    fails-unchanged freshWhenRefused start (Trigger (sourceId 33)) (λ a. (sourceAt (a .state) 3) .configured) refl refl
+    fails-unchanged freshWhenRefused start (OnSource (sourceId 33) Trigger) (λ a. (sourceAt (a .state) 3) .configured) refl refl
 
 -- id 33 of 32: 4 cycles
 pub alwaysTwoM-fails-unchanged : ¬ RefusedUnchanged alwaysTwoM
 unfolding computed
-alwaysTwoM-fails-unchanged = fails-unchanged alwaysTwoM start (Trigger (sourceId 33)) (λ a. a .cycles) refl refl
+alwaysTwoM-fails-unchanged = fails-unchanged alwaysTwoM start (OnSource (sourceId 33) Trigger) (λ a. a .cycles) refl refl

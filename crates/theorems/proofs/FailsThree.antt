@@ -15,7 +15,8 @@ use Rattle.lists.specs.Sorting.{insertDown, sortDown}
 use Rattle.model.specs.Behaviours.{answersBy, Behaviour, runBy}
 use Rattle.model.specs.declared.Controller.{Controller}
 use Rattle.model.specs.declared.Command.{Command}
-use Rattle.model.specs.declared.Command.the-variants.{SetSourcePriority, Unmask, Trigger}
+use Rattle.model.specs.declared.Command.the-variants.{OnSource}
+use Rattle.model.specs.declared.SourceAction.the-variants.{SetSourcePriority, Unmask, Trigger}
 use Rattle.model.specs.Records.{sourceId, coreAt}
 use Rattle.model.specs.Requests.{currentPriority}
 use Rattle.model.specs.Commands.{make}
@@ -54,10 +55,10 @@ table : InRange 32 2
 table = record { some-source = omega arith; n-le = omega arith; some-core = omega arith; m-le = omega arith }
 
 abbrev upToT2 : List Command
-upToT2 = SetSourcePriority (sourceId 4) 4 ∷ Unmask (sourceId 4) ∷ Trigger (sourceId 4) ∷ []
+upToT2 = OnSource (sourceId 4) (SetSourcePriority 4) ∷ OnSource (sourceId 4) Unmask ∷ OnSource (sourceId 4) Trigger ∷ []
 
 abbrev upToT3 : List Command
-upToT3 = SetSourcePriority (sourceId 3) 3 ∷ Unmask (sourceId 3) ∷ (upToT2 ++ (Trigger (sourceId 3) ∷ []))
+upToT3 = OnSource (sourceId 3) (SetSourcePriority 3) ∷ OnSource (sourceId 3) Unmask ∷ (upToT2 ++ (OnSource (sourceId 3) Trigger ∷ []))
 
 -- T2: the highest current priority is 0, and 4 waits
 pub changeNothing-fails-three : ¬ EveryListStrict changeNothing
@@ -75,7 +76,7 @@ pub smallest : InRange 1 1
 smallest = record { some-source = omega arith; n-le = omega arith; some-core = omega arith; m-le = omega arith }
 
 abbrev pub delivery : List Command
-delivery = Unmask (sourceId 1) ∷ Trigger (sourceId 1) ∷ []
+delivery = OnSource (sourceId 1) Unmask ∷ OnSource (sourceId 1) Trigger ∷ []
 
 -- the core's record stands at 1 over an empty box, and the ledger has it at 0
 pub hollow-fails-three : ¬ EveryListStrict hollow

@@ -10,7 +10,8 @@ use borrow.Author.Tests.{eqb-false, ne-eqb}
 use Rattle.model.specs.declared.Controller.{Controller}
 use Rattle.model.specs.declared.Answer.{Answer}
 use Rattle.model.specs.declared.Command.{Command}
-use Rattle.model.specs.declared.Command.the-variants.{Trigger}
+use Rattle.model.specs.declared.Command.the-variants.{OnSource}
+use Rattle.model.specs.declared.SourceAction.the-variants.{Trigger}
 use Rattle.model.specs.Records.{sourceId, coreAt}
 use Rattle.model.specs.Requests.{currentPriority}
 use Rattle.model.specs.Commands.{execute}
@@ -33,25 +34,26 @@ currentOf k a = currentPriority (coreAt (a .state) k)
 -- T2: core 0 stays at 0, where 4 is due
 pub changeNothing-fails-two : ¬ DemandTwo changeNothing
 unfolding computed
-changeNothing-fails-two = fails-two changeNothing (currentOf 0) start (Trigger (sourceId 4)) refl
+changeNothing-fails-two = fails-two changeNothing (currentOf 0) start (OnSource (sourceId 4) Trigger) refl
 
 -- T2: the fresh state has core 0 at 0, where 4 is due
 pub alwaysFresh-fails-two : ¬ DemandTwo alwaysFresh
 unfolding computed
-alwaysFresh-fails-two = fails-two alwaysFresh (currentOf 0) start (Trigger (sourceId 4)) refl
+alwaysFresh-fails-two = fails-two alwaysFresh (currentOf 0) start (OnSource (sourceId 4) Trigger) refl
 
 -- T2: 4 cycles, where 1 is due
 pub alwaysTwoM-fails-two : ¬ DemandTwo alwaysTwoM
 unfolding computed
-alwaysTwoM-fails-two = fails-two alwaysTwoM (λ a. a .cycles) start (Trigger (sourceId 4)) refl
+alwaysTwoM-fails-two = fails-two alwaysTwoM (λ a. a .cycles) start (OnSource (sourceId 4) Trigger) refl
 
 -- T2: the number is not 0
 pub refuseEverything-fails-two : (number : ℕ) → number ≢ 0 → ¬ DemandTwo (refuseEverything number)
 unfolding computed
-refuseEverything-fails-two number other = fails-two (refuseEverything number) (λ a. a .number) start (Trigger (sourceId 4)) (ne-eqb number 0 other)
+refuseEverything-fails-two number other =
+    fails-two (refuseEverything number) (λ a. a .number) start (OnSource (sourceId 4) Trigger) (ne-eqb number 0 other)
 
 -- T3: core 1 stays at 0, where 3 is due
 pub flagsOnly-fails-two : ¬ DemandTwo flagsOnly
 unfolding computed
 flagsOnly-fails-two =
-    fails-two flagsOnly (currentOf 1) ((execute start (Trigger (sourceId 4))) .state) (Trigger (sourceId 3)) refl
+    fails-two flagsOnly (currentOf 1) ((execute start (OnSource (sourceId 4) Trigger)) .state) (OnSource (sourceId 3) Trigger) refl

@@ -37,13 +37,15 @@ module _ (b : Ledger) (s : Controller) (w : WellFormed s) (match : Matches (s .n
 
     held-by : (i : ℕ) → i < s .n → (coreAt s k) .message .source .0 ≡ suc i → Held b s k
     held-by i p e =
-        let inside : boxed (s .cores) (s .m) (suc i) ≡ true = boxed-in (s .cores) (s .m) (suc i) k below (holds-in (suc i) (coreAt s k) f e) in
+        let inside : boxed (s .cores) (s .m) (suc i) ≡ true
+        = boxed-in (s .cores) (s .m) (suc i) k below (holds-in (suc i) (coreAt s k) f e) in
         record {
           i = i;
           named = e;
           below = p;
           inside = inside;
-          request = rw (match .request i p, rw e at (backed .pending), rw e at (backed .delivered), inside, rw e at (backed .same-priority));
+          request =
+              rw (match .request i p, rw e at (backed .pending), rw e at (backed .delivered), inside, rw e at (backed .same-priority));
           above = backed .above (w .clean k below);
         }
 

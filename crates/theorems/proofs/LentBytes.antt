@@ -13,11 +13,11 @@ use Rattle.lists.proofs.Bools.{and-l, and-r, Flag, on, off, flag}
 use Rattle.model.specs.declared.Decoded.{Decoded}
 use Rattle.model.specs.declared.Decoded.the-variants.{Unknown, Known}
 use Rattle.model.specs.Commands.{execute, make}
-use Rattle.model.specs.Encoding.{commandOf}
-use Rattle.model.specs.Bytes.{stateSize, stateBytes, stateFrom, isState, commandsIn, answerSize, numberIn, Call, makeCall, executedOn, executeCall, noCount, roomFor, fitsRun}
-use Rattle.encoding.specs.Statements.{AreBytes}
+use Rattle.layout.specs.Commands.{commandOf}
+use Rattle.layout.specs.Bytes.{stateSize, stateBytes, stateFrom, isState, commandsIn, answerSize, numberIn, Call, makeCall, executedOn, executeCall, noCount, roomFor, fitsRun}
+use Rattle.layout.specs.Statements.{AreBytes}
 use Rattle.encoding.proofs.RoundTrip.{bytes-written-back}
-use Rattle.exports.specs.Statements.{RefusedMakeKeeps, RefusedExecuteKeeps, RefusedRunKeeps, AllRefusedKeeps, RestKept, RunKeepsRest}
+use Rattle.layout.specs.CallStatements.{RefusedMakeKeeps, RefusedExecuteKeeps, RefusedRunKeeps, AllRefusedKeeps, RestKept, RunKeepsRest}
 use Rattle.exports.proofs.Commands.{commands-length}
 use Rattle.exports.proofs.Buffers.{room-enough}
 use Rattle.exports.proofs.Calls.{answersFrom, run-by}

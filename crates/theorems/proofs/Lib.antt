@@ -1,11 +1,10 @@
 -- The theorems, in the order of the demands.
---   Refusals, Bare, Rows, Ids, Changes, Owners      demands 1 and 2
+--   Refusals, Rows, Ids, Changes, Owners      demands 1 and 2
 --   Requests .. DemandThree                         demand 3: the ledger as a picture of the state, counting, the theorem over every list
 --   LentClaim, AnswerBytes, LentBytes, RunStrict, CallsStrict    the same of what is lent, and of the hosts' calls
 --   FailsTwo, FailsThree, FailsRefusals, Hollow, Limits          the statements are false of wrong controllers
 pub mod Owners
 pub mod Refusals
-pub mod Bare
 pub mod Rows
 pub mod Changes
 pub mod Ids

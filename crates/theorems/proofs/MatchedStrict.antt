@@ -90,7 +90,9 @@ module _ (b : Ledger) (s : Controller) where
         unfolding count
         request-shown i below = go (flag (competes (s .n) (s .m) b s (suc i))) (flag (boxed (s .cores) (s .m) (suc i)))
           where
-            go : Flag (competes (s .n) (s .m) b s (suc i)) → Flag (boxed (s .cores) (s .m) (suc i)) → Sent (s .m) (shown t) (In i) (count t (offer i))
+            go :
+                Flag (competes (s .n) (s .m) b s (suc i)) → Flag (boxed (s .cores) (s .m) (suc i)) →
+                Sent (s .m) (shown t) (In i) (count t (offer i))
             go (on c) (on x) =
                 let k = boxed-out (s .cores) (s .m) (suc i) x in
                 to (k .at) (k .below) (k .holds) (rw (c, count-one) (boxed-shown i (k .at) (k .below) (k .holds)))

@@ -11,7 +11,9 @@ use Rattle.model.specs.declared.Core.{Core}
 use Rattle.model.specs.declared.Controller.{Controller}
 use Rattle.model.specs.declared.Answer.{Answer}
 use Rattle.model.specs.declared.Command.{Command}
-use Rattle.model.specs.declared.Command.the-variants.{SetSourcePriority, Mask, Unmask, SetCorePriority, Trigger, Claim, Redeliver, Complete}
+use Rattle.model.specs.declared.Command.the-variants.{OnSource, OnCore}
+use Rattle.model.specs.declared.SourceAction.the-variants.{SetSourcePriority, Mask, Unmask, Trigger, Redeliver, Complete}
+use Rattle.model.specs.declared.CoreAction.the-variants.{SetCorePriority, Claim}
 use Rattle.model.specs.Records.{sourceId, coreAt, withCore}
 use Rattle.model.specs.Requests.{claimed}
 use Rattle.model.specs.WellFormed.{WellFormed, Holding}
@@ -19,7 +21,7 @@ use Rattle.model.specs.Settling.{settle}
 use Rattle.model.specs.Commands.{claimedCore, effect, refusal, answeredId, settled, refused}
 use Rattle.model.specs.Ledger.{Ledger, postAccepted, post}
 use Rattle.settling.specs.Phases.{Kept}
-use Rattle.settling.proofs.Keeps.{settle-keeps}
+use Rattle.settling.proofs.Keeps.{kept-n, kept-m, kept-configured, kept-masked, kept-pending, kept-priority, kept-core-configured, settling-leaves-bare}
 use Rattle.effects.proofs.Accepted.{by-answer}
 use Rattle.effects.proofs.Checked.{Named, Checked, by-index, accepted}
 use Rattle.model.proofs.Claims.{claimed-out}
@@ -38,43 +40,47 @@ module _ (n m : ℕ) (b : Ledger) (s : Controller) (M : Matches n m b s) (W : We
   at-source P each id h = by-index P (λ i q. each i (omega arith)) (id .0) h
 
   -- claim answers the id in the box, which is that of a source
-  claim-follows : (k : CoreId) → k .0 < s .m → (coreAt s (k .0)) .message .filled ≡ true → Follows (Claim k)
+  claim-follows : (k : CoreId) → k .0 < s .m → (coreAt s (k .0)) .message .filled ≡ true → Follows (OnCore k Claim)
   unfolding postAccepted answeredId effect
   claim-follows k h filled =
       let d : Core = coreAt s (k .0) in
       let backed : Holding s d = W .consistent .backed (k .0) h filled in
-      at-source (λ x. d .message .source .0 ≡ x → Matches n m (postAccepted b (Claim k) x) (withCore s (k .0) (claimedCore d)))
+      at-source (λ x. d .message .source .0 ≡ x → Matches n m (postAccepted b (OnCore k Claim) x) (withCore s (k .0) (claimedCore d)))
       (λ i q e. claim-matches n m b s M W (k .0) (omega arith) i q filled e) (d .message .source) (backed .some-id, backed .id-le) refl
 
   effect-matches : (c : Command) → Checked s c → Follows c
   unfolding postAccepted answeredId effect
-  effect-matches (SetSourcePriority id p) h =
-      at-source (λ x. Follows (SetSourcePriority (sourceId x) p)) (λ i q. configured-matches n m b s M W i q p) id (h .0)
-  effect-matches (Mask id) h =
-      at-source (λ x. Follows (Mask (sourceId x))) (λ i q. mask-matches n m b s M W i q true) id h
-  effect-matches (Unmask id) h =
-      at-source (λ x. Follows (Unmask (sourceId x))) (λ i q. mask-matches n m b s M W i q false) id h
-  effect-matches (SetCorePriority k p) h = core-priority-matches n m b s M W (k .0) (rw (← M .m-same) (h .0)) p
-  effect-matches (Trigger id) h = at-source (λ x. Follows (Trigger (sourceId x))) (trigger-matches n m b s M W) id (h .0)
-  effect-matches (Claim k) h = claim-follows k (h .0) (h .1)
-  effect-matches (Redeliver id) h =
-      at-source (λ x. claimed s (pred x) ≡ true → Follows (Redeliver (sourceId x))) (λ i q e. redeliver-matches n m b s M W i q (claimed-out s i e .0)) id (h .0) (h .1)
-  effect-matches (Complete id) h = at-source (λ x. Follows (Complete (sourceId x))) (complete-matches n m b s M W) id (h .0)
+  effect-matches (OnSource id (SetSourcePriority p)) h =
+      at-source (λ x. Follows (OnSource (sourceId x) (SetSourcePriority p))) (λ i q. configured-matches n m b s M W i q p) id (h .0)
+  effect-matches (OnSource id Mask) h =
+      at-source (λ x. Follows (OnSource (sourceId x) Mask)) (λ i q. mask-matches n m b s M W i q true) id (h .0)
+  effect-matches (OnSource id Unmask) h =
+      at-source (λ x. Follows (OnSource (sourceId x) Unmask)) (λ i q. mask-matches n m b s M W i q false) id (h .0)
+  effect-matches (OnCore k (SetCorePriority p)) h = core-priority-matches n m b s M W (k .0) (rw (← M .m-same) (h .0)) p
+  effect-matches (OnSource id Trigger) h = at-source (λ x. Follows (OnSource (sourceId x) Trigger)) (trigger-matches n m b s M W) id (h .0)
+  effect-matches (OnCore k Claim) h = claim-follows k (h .0) (h .1)
+  effect-matches (OnSource id Redeliver) h =
+      at-source (λ x. claimed s (pred x) ≡ true → Follows (OnSource (sourceId x) Redeliver))
+      (λ i q e. redeliver-matches n m b s M W i q (claimed-out s i e .0)) id (h .0) (h .1)
+  effect-matches (OnSource id Complete) h =
+      at-source (λ x. Follows (OnSource (sourceId x) Complete)) (complete-matches n m b s M W) id (h .0)
 
 -- settling moves nothing that the ledger has
-settle-matches : (n m : ℕ) (b : Ledger) (s s′ : Controller) → Matches n m b s → Kept s s′ → ((i : ℕ) → i < s .n → claimed s′ i ≡ claimed s i) → Matches n m b s′
+settle-matches :
+    (n m : ℕ) (b : Ledger) (s s′ : Controller) → Matches n m b s → Kept s s′ → ((i : ℕ) → i < s .n → claimed s′ i ≡ claimed s i) →
+    Matches n m b s′
 settle-matches n m b s s′ M K same =
     record {
-      n-same = K .n-same ∙ M .n-same;
-      m-same = K .m-same ∙ M .m-same;
-      core = λ k h. M .core k h ∙ sym (K .core-configured k);
-      configured = λ i h. M .configured i h ∙ sym (K .configured i);
-      masked = λ i h. M .masked i h ∙ sym (K .masked i);
+      n-same = kept-n s s′ K ∙ M .n-same;
+      m-same = kept-m s s′ K ∙ M .m-same;
+      core = λ k h. M .core k h ∙ sym (kept-core-configured s s′ K k);
+      configured = λ i h. M .configured i h ∙ sym (kept-configured s s′ K i);
+      masked = λ i h. M .masked i h ∙ sym (kept-masked s s′ K i);
       request = λ i h. M .request i h ∙ request-kept i (same i (omega arith));
     }
   where
     request-kept : (i : ℕ) → claimed s′ i ≡ claimed s i → requestOf s i ≡ requestOf s′ i
-    request-kept i e = rw (e, K .pending i, K .priority i)
+    request-kept i e = rw (e, kept-pending s s′ K i, kept-priority s s′ K i)
 
 pub match-kept : MatchKept
 unfolding post settled refused
@@ -88,5 +94,5 @@ match-kept n m b s c W M = by-answer s c Answered settles (λ h. rw (ne-eqb (ref
     settles e =
         settle-matches n m (postAccepted b c (answeredId s c)) (effect s c) (settle (2 * (effect s c) .m) (effect s c))
         (effect-matches n m b s M W c (accepted s c e .1))
-        (settle-keeps (2 * (effect s c) .m) (effect s c))
+        (settling-leaves-bare (2 * (effect s c) .m) (effect s c))
         (execute-settles s c e .claimed-kept)

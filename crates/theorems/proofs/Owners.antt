@@ -50,7 +50,8 @@ module _ (s : Controller) (sound : WellFormed s) (i : ℕ) where
   -- two owners of one standing are the same
   sole : {o o′ : Owner} {d b : Bool} → Standing o d b → Standing o′ d b → o′ ≡ o
   sole (waits b) (waits b′) = refl
-  sole (lies k h) (lies j h′) = ap byBox (sound .consistent .distinct j k (h′ .0) (h .0) (filled j h′) (filled k h) (source j h′ ∙ sym (source k h)))
+  sole (lies k h) (lies j h′) =
+      ap byBox (sound .consistent .distinct j k (h′ .0) (h .0) (filled j h′) (filled k h) (source j h′ ∙ sym (source k h)))
   sole taken taken = refl
 
   owned-pending : (o : Owner) → Owns s i o → pending ≡ true

@@ -1,201 +1,296 @@
--- Each number for no is given exactly when its row of the table says (`RefusalsExact`), and a refused command changes nothing
--- (`RefusedUnchanged`). The number answered is the refusal's (`RefusalAnswered`), and the rows fit no other (`number-unique`).
--- The checks of every command are one chain over the rows, in the order 1, 3, 4, 5, 6, 7, 8 (`refusal-chain`); what the chain's
--- number says of the rows, and back, is a fact about seven flags (`verdict`, `number`). Assumes nothing.
-use Prim.Native.Nat.{ℕ, zero, suc, _≤_}
-use mathlib.Core.Path.{_≡_, refl, sym, _∙_, ap, subst}
-use mathlib.Core.Logic.{_↔_, _≢_}
-use mathlib.Core.Bool.{Bool, true, false, not, _||_, cond, false≢true}
+-- Each number for no is given exactly when its line of the table says, no earlier check refusing (`RefusalsExact`), and a refused command
+-- changes nothing (`RefusedUnchanged`). The number answered is the refusal's (`RefusalAnswered`), and the lines fit no other
+-- (`number-unique`). Assumes nothing.
+--   First s c k     the line of number k is met, and none of an earlier turn
+--   only-number     a command's line is fixed by its turn, so that there is one such number
+--   Met s c k       what the number k of the checks says: 0, and no line is met; or the first line that is
+--   after-sound, after-name    no line of a check that has passed
+use Prim.Native.Nat.{ℕ, zero, suc, _<_, _≤_}
+use mathlib.Core.Path.{_≡_, refl, sym, _∙_, ap}
+use mathlib.Core.Logic.{_≢_}
+use mathlib.Core.Bool.{true, false, not}
 use native.Mathlib.Omega.{arith}
-use native.Mathlib.Decide.{decLe}
-use lib.Dec.{ltb, leb, eqb, lit≤}
-use borrow.Author.Tests.{lt-ltb, le-ltb, le-leb, lt-leb, ne-eqb}
+use lib.Dec.{leb}
+use borrow.Author.Tests.{ltb-true, ltb-false, leb-true, leb-false}
+use Rattle.model.specs.declared.SourceId.{SourceId}
+use Rattle.model.specs.declared.CoreId.{CoreId}
 use Rattle.model.specs.declared.Controller.{Controller}
 use Rattle.model.specs.declared.Command.{Command}
-use Rattle.model.specs.declared.Command.the-variants.{SetSourcePriority, Mask, Unmask, SetCorePriority, Trigger, Claim, Redeliver, Complete}
+use Rattle.model.specs.declared.Command.the-variants.{OnSource, OnCore}
+use Rattle.model.specs.declared.SourceAction.{SourceAction}
+use Rattle.model.specs.declared.SourceAction.the-variants.{SetSourcePriority, Mask, Unmask, Trigger, Redeliver, Complete}
+use Rattle.model.specs.declared.CoreAction.{CoreAction}
+use Rattle.model.specs.declared.CoreAction.the-variants.{SetCorePriority, Claim}
 use Rattle.model.specs.Records.{indexOf, sourceAt, coreAt, answer}
 use Rattle.model.specs.Priorities.{topPriority}
 use Rattle.model.specs.Requests.{claimed}
 use Rattle.lists.specs.Numbers.{between}
+use Rattle.lists.proofs.Exact.{between-exact}
+use Rattle.lists.proofs.Bools.{Flag, on, off, flag, clash}
 use Rattle.model.specs.WellFormed.{wellFormed, WellFormed}
-use Rattle.model.specs.Commands.{unless, refusalOf, refusal, settled, refused, execute}
-use Rattle.model.specs.Statements.{coreOutOfRange, sourceOutOfRange, priorityOutOfRange, triggersPending, claimsEmpty, actsOnUnclaimed, Refusals, RefusalsExact, RefusalAnswered, RefusedUnchanged}
-use Rattle.soundness.proofs.Test.{test-exact}
+use Rattle.model.specs.Commands.{unless, namesSource, namesCore, sourceRefusal, coreRefusal, refusalOf, refusal, settled, refused, execute}
+use Rattle.model.specs.Statements.{Row, not-sound, no-core, no-source, source-priority, core-priority, is-pending, empty-box, not-redelivered, not-completed, turn, Refusals, RefusalsExact, RefusalAnswered, RefusedUnchanged}
+use Rattle.well_formed.proofs.Test.{test-exact}
 use Rattle.effects.proofs.Accepted.{by-answer}
 
--- ---- a chain of checks, and what its number says
+abbrev First : Controller → Command → ℕ → Type 0
+First s c k = Row s c k × ((j : ℕ) → Row s c j → turn k ≤ turn j)
 
--- the number of the first row that holds; w says whether the state passes its test
-abbrev chain : (w c r p t e u : Bool) → ℕ
-chain w c r p t e u = cond w (cond c 3 (cond r 4 (cond p 5 (cond t 6 (cond e 7 (cond u 8 0)))))) 1
+-- ---- one number
 
--- what each number says of the rows, W being what the state's test means
-data Verdict (W : Type 0) (c r p t e u : Bool) : ℕ → Type 0 where
-  passed : W × ((c ≡ false) × (r ≡ false)) × (p ≡ false) × (t ≡ false) × (e ≡ false) × (u ≡ false) → Verdict W c r p t e u 0
-  at-state : ¬ W → Verdict W c r p t e u 1
-  at-core : W × (c ≡ true) → Verdict W c r p t e u 3
-  at-source : W × (r ≡ true) → Verdict W c r p t e u 4
-  at-priority : W × ((c ≡ false) × (r ≡ false)) × (p ≡ true) → Verdict W c r p t e u 5
-  at-pending : W × ((c ≡ false) × (r ≡ false)) × (p ≡ false) × (t ≡ true) → Verdict W c r p t e u 6
-  at-empty : W × ((c ≡ false) × (r ≡ false)) × (p ≡ false) × (e ≡ true) → Verdict W c r p t e u 7
-  at-unclaimed : W × ((c ≡ false) × (r ≡ false)) × (p ≡ false) × (u ≡ true) → Verdict W c r p t e u 8
+-- the last check of an action
+abbrev sourceLast : SourceAction → ℕ
+sourceLast (SetSourcePriority p) = 0
+sourceLast Mask = 0
+sourceLast Unmask = 0
+sourceLast Trigger = 6
+sourceLast Redeliver = 8
+sourceLast Complete = 8
 
--- at most one of two rows holds
-data Apart : Bool → Bool → Type 0 where
-  left : (a : Bool) → Apart a false
-  right : (b : Bool) → Apart false b
+-- the number of a command's check at a turn
+abbrev numberAt : Command → ℕ → ℕ
+numberAt c zero = 0
+numberAt c (suc zero) = 1
+numberAt (OnSource id a) (suc (suc zero)) = 4
+numberAt (OnCore k a) (suc (suc zero)) = 3
+numberAt c (suc (suc (suc zero))) = 5
+numberAt (OnSource id a) (suc (suc (suc (suc t)))) = sourceLast a
+numberAt (OnCore k a) (suc (suc (suc (suc t)))) = 7
 
-apart : {a b : Bool} → Apart a b → b ≡ true → a ≡ false
-apart (left a) e = absurd (false≢true e)
-apart (right b) e = refl
+row-number : {s : Controller} {c : Command} {k : ℕ} → Row s c k → k ≡ numberAt c (turn k)
+row-number (not-sound h) = refl
+row-number (no-core h) = refl
+row-number (no-source h) = refl
+row-number (source-priority h) = refl
+row-number (core-priority h) = refl
+row-number (is-pending h) = refl
+row-number (empty-box h) = refl
+row-number (not-redelivered h) = refl
+row-number (not-completed h) = refl
 
--- rows 3 and 4 exclude each other, and so do 6, 7 and 8
-abbrev Exclusive : (c r t e u : Bool) → Type 0
-Exclusive c r t e u = Apart c r × Apart t e × Apart t u × Apart e u
+pub row-small : {s : Controller} {c : Command} {k : ℕ} → Row s c k → (1 ≤ k) × (k ≤ 8)
+row-small (not-sound h) = (omega arith, omega arith)
+row-small (no-core h) = (omega arith, omega arith)
+row-small (no-source h) = (omega arith, omega arith)
+row-small (source-priority h) = (omega arith, omega arith)
+row-small (core-priority h) = (omega arith, omega arith)
+row-small (is-pending h) = (omega arith, omega arith)
+row-small (empty-box h) = (omega arith, omega arith)
+row-small (not-redelivered h) = (omega arith, omega arith)
+row-small (not-completed h) = (omega arith, omega arith)
 
-module _ {W : Type 0} where
-  -- what the chain's number says holds
-  verdict : (w c r p t e u : Bool) → (w ≡ true) ↔ W → Verdict W c r p t e u (chain w c r p t e u)
-  verdict false c r p t e u exact = at-state (λ h. false≢true (exact .1 h))
-  verdict true true r p t e u exact = at-core (exact .0 refl, refl)
-  verdict true false true p t e u exact = at-source (exact .0 refl, refl)
-  verdict true false false true t e u exact = at-priority (exact .0 refl, (refl, refl), refl)
-  verdict true false false false true e u exact = at-pending (exact .0 refl, (refl, refl), refl, refl)
-  verdict true false false false false true u exact = at-empty (exact .0 refl, (refl, refl), refl, refl)
-  verdict true false false false false false true exact = at-unclaimed (exact .0 refl, (refl, refl), refl, refl)
-  verdict true false false false false false false exact = passed (exact .0 refl, (refl, refl), refl, refl, refl, refl)
+only-number : {s : Controller} {c : Command} (j k : ℕ) → First s c j → First s c k → j ≡ k
+only-number {s} {c} j k (rj, fj) (rk, fk) =
+    let same : turn j ≡ turn k = omega (arith, fj k rk, fk j rj) in
+    row-number rj ∙ ap (numberAt c) same ∙ sym (row-number rk)
 
-  untrue : (w : Bool) → (w ≡ true) ↔ W → ¬ W → w ≡ false
-  untrue true exact h = absurd (h (exact .0 refl))
-  untrue false exact h = refl
+-- ---- the lines of checks that have passed
 
-  -- and where it holds, that is the chain's number
-  number : {w c r p t e u : Bool} → (w ≡ true) ↔ W → Exclusive c r t e u → {k : ℕ} → Verdict W c r p t e u k → chain w c r p t e u ≡ k
-  number exact x (passed h) = rw (exact .1 (h .0), h .1 .0, h .1 .1, h .2, h .3, h .4, h .5)
-  number {w} exact x (at-state h) = rw (untrue w exact h)
-  number exact x (at-core h) = rw (exact .1 (h .0), h .1)
-  number exact x (at-source h) = rw (exact .1 (h .0), apart (x .0) (h .1), h .1)
-  number exact x (at-priority h) = rw (exact .1 (h .0), h .1 .0, h .1 .1, h .2)
-  number exact x (at-pending h) = rw (exact .1 (h .0), h .1 .0, h .1 .1, h .2, h .3)
-  number exact x (at-empty h) = rw (exact .1 (h .0), h .1 .0, h .1 .1, h .2, apart (x .1) (h .3), h .3)
-  number exact x (at-unclaimed h) = rw (exact .1 (h .0), h .1 .0, h .1 .1, h .2, apart (x .2) (h .3), apart (x .3) (h .3), h .3)
+-- a source's id is 1 to n, a core's number below m
+abbrev Names : Controller → Command → Type 0
+Names s (OnSource id a) = (1 ≤ id .0) × (id .0 ≤ s .n)
+Names s (OnCore k a) = k .0 < s .m
 
-cond-le : (b : Bool) {x y k : ℕ} → x ≤ k → y ≤ k → cond b x y ≤ k
-cond-le true p q = p
-cond-le false p q = q
+after-sound : {s : Controller} {c : Command} → WellFormed s → (j : ℕ) → Row s c j → 2 ≤ turn j
+after-sound w _ (not-sound h) = absurd (h w)
+after-sound w _ (no-core h) = omega arith
+after-sound w _ (no-source h) = omega arith
+after-sound w _ (source-priority h) = omega arith
+after-sound w _ (core-priority h) = omega arith
+after-sound w _ (is-pending h) = omega arith
+after-sound w _ (empty-box h) = omega arith
+after-sound w _ (not-redelivered h) = omega arith
+after-sound w _ (not-completed h) = omega arith
 
--- ---- the checks of every command are the chain over the rows
+after-name : {s : Controller} {c : Command} → WellFormed s → Names s c → (j : ℕ) → Row s c j → 3 ≤ turn j
+after-name w n _ (not-sound h) = absurd (h w)
+after-name w n _ (no-core h) = absurd (omega arith)
+after-name w n _ (no-source h) = absurd (h n)
+after-name w n _ (source-priority h) = omega arith
+after-name w n _ (core-priority h) = omega arith
+after-name w n _ (is-pending h) = omega arith
+after-name w n _ (empty-box h) = omega arith
+after-name w n _ (not-redelivered h) = omega arith
+after-name w n _ (not-completed h) = omega arith
 
--- a check that passes exactly where its row does not hold
-data Contrary : Bool → Bool → Type 0 where
-  passes : Contrary true false
-  fails : Contrary false true
+-- ---- the checks, in their order
 
-swap : {a b : Bool} → Contrary a b → Contrary b a
-swap passes = fails
-swap fails = passes
+data Met (s : Controller) (c : Command) : ℕ → Type 0 where
+  none : ((j : ℕ) → ¬ Row s c j) → Met s c 0
+  first : (k : ℕ) → First s c k → Met s c k
 
-contrary-not : (b : Bool) → Contrary b (not b)
-contrary-not true = passes
-contrary-not false = fails
+-- of a source that has the id
+module _ {s : Controller} (w : WellFormed s) {id : SourceId} (n : (1 ≤ id .0) × (id .0 ≤ s .n)) where
+  setting-none : {p : ℕ} → (1 ≤ p) × (p ≤ topPriority (s .n)) → (j : ℕ) → ¬ Row s (OnSource id (SetSourcePriority p)) j
+  setting-none r _ (not-sound h) = h w
+  setting-none r _ (no-source h) = h n
+  setting-none r _ (source-priority h) = h r
 
-contrary-le : (a b : ℕ) → Contrary (leb a b) (ltb b a)
-contrary-le a b = go (decLe a b)
+  mask-none : (j : ℕ) → ¬ Row s (OnSource id Mask) j
+  mask-none _ (not-sound h) = h w
+  mask-none _ (no-source h) = h n
+
+  unmask-none : (j : ℕ) → ¬ Row s (OnSource id Unmask) j
+  unmask-none _ (not-sound h) = h w
+  unmask-none _ (no-source h) = h n
+
+  trigger-turn : (j : ℕ) → Row s (OnSource id Trigger) j → 4 ≤ turn j
+  trigger-turn _ (not-sound h) = absurd (h w)
+  trigger-turn _ (no-source h) = absurd (h n)
+  trigger-turn _ (is-pending h) = omega arith
+
+  redeliver-turn : (j : ℕ) → Row s (OnSource id Redeliver) j → 4 ≤ turn j
+  redeliver-turn _ (not-sound h) = absurd (h w)
+  redeliver-turn _ (no-source h) = absurd (h n)
+  redeliver-turn _ (not-redelivered h) = omega arith
+
+  complete-turn : (j : ℕ) → Row s (OnSource id Complete) j → 4 ≤ turn j
+  complete-turn _ (not-sound h) = absurd (h w)
+  complete-turn _ (no-source h) = absurd (h n)
+  complete-turn _ (not-completed h) = omega arith
+
+  trigger-none : (sourceAt s (indexOf id)) .pending ≡ false → (j : ℕ) → ¬ Row s (OnSource id Trigger) j
+  trigger-none e _ (not-sound h) = h w
+  trigger-none e _ (no-source h) = h n
+  trigger-none e _ (is-pending h) = clash h e
+
+  redeliver-none : claimed s (indexOf id) ≡ true → (j : ℕ) → ¬ Row s (OnSource id Redeliver) j
+  redeliver-none e _ (not-sound h) = h w
+  redeliver-none e _ (no-source h) = h n
+  redeliver-none e _ (not-redelivered h) = clash e h
+
+  complete-none : claimed s (indexOf id) ≡ true → (j : ℕ) → ¬ Row s (OnSource id Complete) j
+  complete-none e _ (not-sound h) = h w
+  complete-none e _ (no-source h) = h n
+  complete-none e _ (not-completed h) = clash e h
+
+  setting-met :
+      (p : ℕ) → Flag (between 1 (topPriority (s .n)) p) →
+      Met s (OnSource id (SetSourcePriority p)) (unless (between 1 (topPriority (s .n)) p) 5 0)
+  setting-met p (on e) = rw e (none (setting-none ((between-exact 1 (topPriority (s .n)) p) .0 e)))
+  setting-met p (off e) = rw e (first 5 (source-priority (λ h. clash ((between-exact 1 (topPriority (s .n)) p) .1 h) e), after-name w n))
+
+  trigger-met :
+      Flag ((sourceAt s (indexOf id)) .pending) → Met s (OnSource id Trigger) (unless (not ((sourceAt s (indexOf id)) .pending)) 6 0)
+  trigger-met (on e) = rw e (first 6 (is-pending e, trigger-turn))
+  trigger-met (off e) = rw e (none (trigger-none e))
+
+  redeliver-met : Flag (claimed s (indexOf id)) → Met s (OnSource id Redeliver) (unless (claimed s (indexOf id)) 8 0)
+  redeliver-met (on e) = rw e (none (redeliver-none e))
+  redeliver-met (off e) = rw e (first 8 (not-redelivered e, redeliver-turn))
+
+  complete-met : Flag (claimed s (indexOf id)) → Met s (OnSource id Complete) (unless (claimed s (indexOf id)) 8 0)
+  complete-met (on e) = rw e (none (complete-none e))
+  complete-met (off e) = rw e (first 8 (not-completed e, complete-turn))
+
+  source-met : (a : SourceAction) → Met s (OnSource id a) (sourceRefusal s (indexOf id) a)
+  source-met (SetSourcePriority p) = setting-met p (flag _)
+  source-met Mask = none mask-none
+  source-met Unmask = none unmask-none
+  source-met Trigger = trigger-met (flag _)
+  source-met Redeliver = redeliver-met (flag _)
+  source-met Complete = complete-met (flag _)
+
+-- of a core that has the number
+module _ {s : Controller} (w : WellFormed s) {k : CoreId} (n : k .0 < s .m) where
+  setting-core-none : {p : ℕ} → p ≤ topPriority (s .n) → (j : ℕ) → ¬ Row s (OnCore k (SetCorePriority p)) j
+  setting-core-none r _ (not-sound h) = h w
+  setting-core-none r _ (no-core h) = absurd (omega arith)
+  setting-core-none r _ (core-priority h) = absurd (omega arith)
+
+  claim-turn : (j : ℕ) → Row s (OnCore k Claim) j → 4 ≤ turn j
+  claim-turn _ (not-sound h) = absurd (h w)
+  claim-turn _ (no-core h) = absurd (omega arith)
+  claim-turn _ (empty-box h) = omega arith
+
+  claim-none : (coreAt s (k .0)) .message .filled ≡ true → (j : ℕ) → ¬ Row s (OnCore k Claim) j
+  claim-none e _ (not-sound h) = h w
+  claim-none e _ (no-core h) = absurd (omega arith)
+  claim-none e _ (empty-box h) = clash e h
+
+  setting-core-met :
+      (p : ℕ) → Flag (leb p (topPriority (s .n))) → Met s (OnCore k (SetCorePriority p)) (unless (leb p (topPriority (s .n))) 5 0)
+  setting-core-met p (on e) = rw e (none (setting-core-none (leb-true p (topPriority (s .n)) e)))
+  setting-core-met p (off e) = rw e (first 5 (core-priority (leb-false p (topPriority (s .n)) e), after-name w n))
+
+  claim-met : Flag ((coreAt s (k .0)) .message .filled) → Met s (OnCore k Claim) (unless ((coreAt s (k .0)) .message .filled) 7 0)
+  claim-met (on e) = rw e (none (claim-none e))
+  claim-met (off e) = rw e (first 7 (empty-box e, claim-turn))
+
+  core-met : (a : CoreAction) → Met s (OnCore k a) (coreRefusal s (k .0) a)
+  core-met (SetCorePriority p) = setting-core-met p (flag _)
+  core-met Claim = claim-met (flag _)
+
+named-met : {s : Controller} → WellFormed s → (c : Command) → Met s c (refusalOf s c)
+unfolding refusalOf
+named-met {s} w (OnSource id a) = go (flag (namesSource s id))
   where
-    go : Dec (a ≤ b) → Contrary (leb a b) (ltb b a)
-    go (yes h) = rw (le-leb a b h, le-ltb b a h) passes
-    go (no h) = rw (lt-leb a b (omega arith), lt-ltb b a (omega arith)) fails
+    go : Flag (namesSource s id) → Met s (OnSource id a) (unless (namesSource s id) 4 (sourceRefusal s (indexOf id) a))
+    go (on e) = rw e (source-met w ((between-exact 1 (s .n) (id .0)) .0 e) a)
+    go (off e) = rw e (first 4 (no-source (λ h. clash ((between-exact 1 (s .n) (id .0)) .1 h) e), after-sound w))
+named-met {s} w (OnCore k a) = go (flag (namesCore s k))
+  where
+    go : Flag (namesCore s k) → Met s (OnCore k a) (unless (namesCore s k) 3 (coreRefusal s (k .0) a))
+    go (on e) = rw e (core-met w (ltb-true (k .0) (s .m) e) a)
+    go (off e) = rw e (first 3 (no-core (ltb-false (k .0) (s .m) e), after-sound w))
 
-contrary-between : (high x : ℕ) → Contrary (between 1 high x) (eqb x 0 || ltb high x)
-contrary-between high zero = fails
-contrary-between high (suc x) =
-    rw (le-leb 1 (suc x) (omega arith), ne-eqb (suc x) 0 (omega arith)) (contrary-le (suc x) high)
+any-turn : {s : Controller} {c : Command} (j : ℕ) → Row s c j → 1 ≤ turn j
+any-turn _ (not-sound h) = omega arith
+any-turn _ (no-core h) = omega arith
+any-turn _ (no-source h) = omega arith
+any-turn _ (source-priority h) = omega arith
+any-turn _ (core-priority h) = omega arith
+any-turn _ (is-pending h) = omega arith
+any-turn _ (empty-box h) = omega arith
+any-turn _ (not-redelivered h) = omega arith
+any-turn _ (not-completed h) = omega arith
 
--- two checks after each other; a command with one has a second that passes
-checks : {a a′ b b′ : Bool} → Contrary a b → Contrary a′ b′ → (x y : ℕ) → unless a x (unless a′ y 0) ≡ cond b x (cond b′ y 0)
-checks passes passes x y = refl
-checks passes fails x y = refl
-checks fails q x y = refl
+met : (s : Controller) (c : Command) → Met s c (refusal s c)
+unfolding refusal
+met s c = go (flag (wellFormed s))
+  where
+    go : Flag (wellFormed s) → Met s c (unless (wellFormed s) 1 (refusalOf s c))
+    go (on e) = rw e (named-met ((test-exact s) .0 e) c)
+    go (off e) = rw e (first 1 (not-sound (λ w. clash ((test-exact s) .1 w) e), any-turn))
 
-module _ (s : Controller) where
-  -- a function of all the rows, at a command
-  abbrev atRows {ℓ} : {A : Type ℓ} → ((c r p t e u : Bool) → A) → Command → A
-  atRows f c = f (coreOutOfRange s c) (sourceOutOfRange s c) (priorityOutOfRange s c) (triggersPending s c) (claimsEmpty s c) (actsOnUnclaimed s c)
+-- ---- the statements
 
-  refusalOf-chain : (c : Command) → refusalOf s c ≡ atRows (chain true) c
-  unfolding refusalOf
-  refusalOf-chain (SetSourcePriority id p) = checks (contrary-between (s .n) (id .0)) (contrary-between (topPriority (s .n)) p) 4 5
-  refusalOf-chain (Mask id) = checks (contrary-between (s .n) (id .0)) passes 4 0
-  refusalOf-chain (Unmask id) = checks (contrary-between (s .n) (id .0)) passes 4 0
-  refusalOf-chain (SetCorePriority k p) = checks (swap (contrary-le (s .m) (k .0))) (contrary-le p (topPriority (s .n))) 3 5
-  refusalOf-chain (Trigger id) = checks (contrary-between (s .n) (id .0)) (swap (contrary-not ((sourceAt s (indexOf id)) .pending))) 4 6
-  refusalOf-chain (Claim k) = checks (swap (contrary-le (s .m) (k .0))) (contrary-not ((coreAt s (k .0)) .message .filled)) 3 7
-  refusalOf-chain (Redeliver id) = checks (contrary-between (s .n) (id .0)) (contrary-not (claimed s (indexOf id))) 4 8
-  refusalOf-chain (Complete id) = checks (contrary-between (s .n) (id .0)) (contrary-not (claimed s (indexOf id))) 4 8
-
-  refusal-chain : (c : Command) → refusal s c ≡ atRows (chain (wellFormed s)) c
-  unfolding refusal
-  refusal-chain c = ap (unless (wellFormed s) 1) (refusalOf-chain c)
-
-  exclusive : (c : Command) → atRows (λ c r p t e u. Exclusive c r t e u) c
-  exclusive (SetSourcePriority id p) = (right _, left _, left _, left _)
-  exclusive (Mask id) = (right _, left _, left _, left _)
-  exclusive (Unmask id) = (right _, left _, left _, left _)
-  exclusive (SetCorePriority k p) = (left _, left _, left _, left _)
-  exclusive (Trigger id) = (right _, left _, left _, left _)
-  exclusive (Claim k) = (left _, right _, left _, left _)
-  exclusive (Redeliver id) = (right _, left _, right _, right _)
-  exclusive (Complete id) = (right _, left _, right _, right _)
-
-module _ (s : Controller) (c : Command) where
-  abbrev Says : ℕ → Type 0
-  Says k = atRows s (λ c r p t e u. Verdict (WellFormed s) c r p t e u k) c
-
-  says : {k : ℕ} → refusal s c ≡ k → Says k
-  says q = subst Says (sym (refusal-chain s c) ∙ q) (verdict (wellFormed s) _ _ _ _ _ _ (test-exact s))
-
-  said : {k : ℕ} → Says k → refusal s c ≡ k
-  said v = refusal-chain s c ∙ number (test-exact s) (exclusive s c) v
-
-  -- the number k is given exactly where H holds
-  given : {k : ℕ} {H : Type 0} → (Says k → H) → (H → Says k) → (refusal s c ≡ k) ↔ H
-  given to from = (λ q. to (says q), λ h. said (from h))
-
-  refusals : Refusals (refusal s c) s c
-  refusals =
-      record {
-        one = given (λ v. elim v [ at-state h ↦ h ]) at-state;
-        three = given (λ v. elim v [ at-core h ↦ h ]) at-core;
-        four = given (λ v. elim v [ at-source h ↦ h ]) at-source;
-        five = given (λ v. elim v [ at-priority h ↦ h ]) at-priority;
-        six = given (λ v. elim v [ at-pending h ↦ h ]) at-pending;
-        seven = given (λ v. elim v [ at-empty h ↦ h ]) at-empty;
-        eight = given (λ v. elim v [ at-unclaimed h ↦ h ]) at-unclaimed;
-        zero = given (λ v. elim v [ passed h ↦ h ]) passed;
-        never-two = λ q. elim (says q) [ ];
-        at-most-eight = rw (refusal-chain s c) (search (cond-le, lit≤, tt) depth 10);
-      }
-
-  -- the rows leave no choice
-  fixed : {k : ℕ} (number : ℕ) → Refusals number s c → Says k → number ≡ k
-  fixed number r (passed h) = r .zero .1 h
-  fixed number r (at-state h) = r .one .1 h
-  fixed number r (at-core h) = r .three .1 h
-  fixed number r (at-source h) = r .four .1 h
-  fixed number r (at-priority h) = r .five .1 h
-  fixed number r (at-pending h) = r .six .1 h
-  fixed number r (at-empty h) = r .seven .1 h
-  fixed number r (at-unclaimed h) = r .eight .1 h
+refusals-of : {s : Controller} {c : Command} (k : ℕ) → Met s c k → Refusals k s c
+refusals-of _ (none h) =
+    record {
+      given = λ k some. (λ e. absurd (omega arith), λ f. absurd (h k (f .0)));
+      accepted = (λ e. h, λ g. refl);
+    }
+refusals-of _ (first k f) =
+    record {
+      given = λ j some. (λ e. rw (← e) f, λ g. only-number k j f g);
+      accepted = (λ e. absurd (omega (arith, row-small (f .0))), λ g. absurd (g k (f .0)));
+    }
 
 pub refusal-answered : RefusalAnswered
 unfolding refused settled
 refusal-answered s c = by-answer s c (λ a. a .number ≡ refusal s c) (λ e. sym e) (λ h. refl)
 
 pub refusals-exact : RefusalsExact execute
-refusals-exact s c = rw (refusal-answered s c) (refusals s c)
+refusals-exact s c = rw (refusal-answered s c) (refusals-of (refusal s c) (met s c))
+
+-- the lines fit one number
+unique : {s : Controller} {c : Command} (j k : ℕ) → Refusals j s c → Refusals k s c → j ≡ k
+unique zero zero x y = refl
+unique zero (suc k) x y = absurd ((x .accepted) .0 refl (suc k) (((y .given) (suc k) (omega arith)) .0 refl .0))
+unique (suc j) zero x y = absurd ((y .accepted) .0 refl (suc j) (((x .given) (suc j) (omega arith)) .0 refl .0))
+unique (suc j) (suc k) x y =
+    only-number (suc j) (suc k) (((x .given) (suc j) (omega arith)) .0 refl) (((y .given) (suc k) (omega arith)) .0 refl)
 
 pub number-unique : (s : Controller) (c : Command) (number : ℕ) → Refusals number s c → number ≡ (execute s c) .number
-number-unique s c number r = fixed s c number r (says s c refl) ∙ sym (refusal-answered s c)
+number-unique s c number r = unique number ((execute s c) .number) r (refusals-exact s c)
+
+pub at-most-eight : (s : Controller) (c : Command) → (execute s c) .number ≤ 8
+at-most-eight s c = go ((execute s c) .number) (refusals-exact s c)
+  where
+    go : (k : ℕ) → Refusals k s c → k ≤ 8
+    go zero r = omega arith
+    go (suc k) r = (row-small (((r .given) (suc k) (omega arith)) .0 refl .0)) .1
 
 pub refused-unchanged : RefusedUnchanged execute
 unfolding refused settled

@@ -14,7 +14,7 @@ use Rattle.model.specs.Commands.{execute}
 use Rattle.model.specs.Ledger.{opening, ledger, entries, answersTo}
 use Rattle.model.specs.Statements.{InRange, PriorityStrict}
 use Rattle.lists.proofs.Exact.{refuted-exact}
-use Rattle.soundness.proofs.Clauses.{sizes-exact}
+use Rattle.well_formed.proofs.Clauses.{sizes-exact}
 use Rattle.theorems.proofs.DemandThree.{reset-strict}
 use Rattle.recording.specs.Reading.{reading}
 use Rattle.recording.specs.Replay.{Replay, replayFrom, replayed}

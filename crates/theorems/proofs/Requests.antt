@@ -10,7 +10,9 @@ use Rattle.model.specs.Requests.{waiting, boxed, claimed}
 use Rattle.model.specs.Ledger.{Ledger, noRequest, openRequest, claimedRequest, priorityOf, isOpen}
 use Rattle.theorems.specs.Matches.{Matches, requestOf}
 
-own-priority : {pending : Bool} (c : Bool) (p : ℕ) → pending ≡ true → priorityOf (cond pending (cond c (claimedRequest p) (openRequest p)) noRequest) ≡ p
+own-priority :
+    {pending : Bool} (c : Bool) (p : ℕ) → pending ≡ true →
+    priorityOf (cond pending (cond c (claimedRequest p) (openRequest p)) noRequest) ≡ p
 own-priority true p e = rw e
 own-priority false p e = rw e
 

@@ -15,16 +15,19 @@ use Rattle.model.specs.declared.MessageBox.{MessageBox}
 use Rattle.model.specs.declared.Core.{Core}
 use Rattle.model.specs.declared.Controller.{Controller}
 use Rattle.model.specs.declared.Command.{Command}
-use Rattle.model.specs.declared.Command.the-variants.{SetSourcePriority, Mask, Unmask, SetCorePriority, Trigger, Claim, Redeliver, Complete}
-use Rattle.model.specs.Records.{maxCores, noSource, noCore, indexOf, withConfigured, withMask, withDelivered, opened, ended, boxWith, coreWith, sourceAt, coreAt, withSource, withCore, bare}
+use Rattle.model.specs.declared.Command.the-variants.{OnSource, OnCore}
+use Rattle.model.specs.declared.SourceAction.{SourceAction}
+use Rattle.model.specs.declared.SourceAction.the-variants.{SetSourcePriority, Mask, Unmask, Trigger, Redeliver, Complete}
+use Rattle.model.specs.declared.CoreAction.the-variants.{SetCorePriority, Claim}
+use Rattle.model.specs.Records.{maxCores, noSource, noCore, indexOf, boxWith, coreWith, sourceAt, coreAt, withSource, withCore, bare}
 use Rattle.model.specs.WellFormed.{WellFormed}
-use Rattle.model.specs.Commands.{soiled, claimedCore, effect, refusal, settled, execute}
-use Rattle.model.specs.Statements.{Change, keep, becomes, changed, coreBy, sourceAfter, coreAfter, RowsMet}
+use Rattle.model.specs.Commands.{soiled, claimedCore, sourceAfter, effect, refusal, settled, execute}
+use Rattle.model.specs.Statements.{Change, keep, becomes, changed, coreBy, sourceRow, sourceIn, coreIn, RowsMet}
 use Rattle.lists.proofs.Writes.{read-written}
 use Rattle.effects.proofs.Accepted.{execute-accepted}
 use Rattle.effects.proofs.Checked.{Named, Checked, accepted}
 use Rattle.effects.proofs.Effects.{effect-sizes}
-use Rattle.theorems.proofs.Bare.{settling-leaves-bare}
+use Rattle.settling.proofs.Keeps.{settling-leaves-bare}
 
 -- ---- one record written
 
@@ -39,6 +42,16 @@ module _ (s : Controller) (w : WellFormed s) where
       coreAt (withCore s j (f (coreAt s j))) k ≡ cond (eqb j k) (f (coreAt s k)) (coreAt s k)
   core-written j h f k =
       sym (read-written (λ i c. c) (s .cores) j k (f (coreAt s j)) noCore (omega arith) j k (λ e. sym e, λ e. sym e) (λ e. rw e) refl)
+
+-- ---- the definition's record of an action is the row's
+
+same-row : (a : SourceAction) (r : Source) → sourceAfter a r ≡ sourceRow a r
+same-row (SetSourcePriority p) r = refl
+same-row Mask r = refl
+same-row Unmask r = refl
+same-row Trigger r = refl
+same-row Redeliver r = refl
+same-row Complete r = refl
 
 -- ---- every filled box made dirty
 
@@ -64,7 +77,7 @@ module _ (s : Controller) (w : WellFormed s) where
       go (no q) (no p) = rw (List·getD-eq-default (s .cores) noCore {n = k} (omega arith))
 
   soiled-row : (j : CoreId) (p : ℕ) → j .0 < s .m → (k : ℕ) →
-      coreAt (effect s (SetCorePriority j p)) k ≡ coreAfter (SetCorePriority j p) k (coreAt s k)
+      coreAt (effect s (OnCore j (SetCorePriority p))) k ≡ coreIn (OnCore j (SetCorePriority p)) k (coreAt s k)
   unfolding effect
   soiled-row j p h k =
       List·getD-map soiled (set (s .cores) (j .0) _) k noCore ∙
@@ -78,27 +91,18 @@ module _ (s : Controller) (w : WellFormed s) where
 
   -- ---- the rows
 
-  source-row : (c : Command) → Checked s c → (i : ℕ) → sourceAt (effect s c) i ≡ sourceAfter c (suc i) (sourceAt s i)
+  source-row : (c : Command) → Checked s c → (i : ℕ) → sourceAt (effect s c) i ≡ sourceIn c (suc i) (sourceAt s i)
   unfolding effect
-  source-row (SetSourcePriority id p) h i = source-written s w id (h .0) (withConfigured p) i
-  source-row (Mask id) h i = source-written s w id h (withMask true) i
-  source-row (Unmask id) h i = source-written s w id h (withMask false) i
-  source-row (SetCorePriority j p) h i = refl
-  source-row (Trigger id) h i = source-written s w id (h .0) opened i
-  source-row (Claim j) h i = refl
-  source-row (Redeliver id) h i = source-written s w id (h .0) (withDelivered false) i
-  source-row (Complete id) h i = source-written s w id (h .0) ended i
+  source-row (OnSource id a) h i =
+      source-written s w id (h .0) (sourceAfter a) i ∙
+      ap (λ (r : Source). cond (eqb (id .0) (suc i)) r (sourceAt s i)) (same-row a (sourceAt s i))
+  source-row (OnCore j a) h i = refl
 
-  core-row : (c : Command) → Checked s c → (k : ℕ) → coreAt (effect s c) k ≡ coreAfter c k (coreAt s k)
+  core-row : (c : Command) → Checked s c → (k : ℕ) → coreAt (effect s c) k ≡ coreIn c k (coreAt s k)
   unfolding effect
-  core-row (SetSourcePriority id p) h k = refl
-  core-row (Mask id) h k = refl
-  core-row (Unmask id) h k = refl
-  core-row (SetCorePriority j p) h k = soiled-row j p (h .0) k
-  core-row (Trigger id) h k = refl
-  core-row (Claim j) h k = core-written s w (j .0) (h .0) claimedCore k
-  core-row (Redeliver id) h k = refl
-  core-row (Complete id) h k = refl
+  core-row (OnSource id a) h k = refl
+  core-row (OnCore j (SetCorePriority p)) h k = soiled-row j p (h .0) k
+  core-row (OnCore j Claim) h k = core-written s w (j .0) (h .0) claimedCore k
 
 settled-bare : (s : Controller) (c : Command) → refusal s c ≡ 0 → bare ((execute s c) .state) ≡ bare (effect s c)
 unfolding settled

@@ -14,16 +14,16 @@ use Rattle.model.specs.declared.Command.{Command}
 use Rattle.model.specs.Records.{reset}
 use Rattle.model.specs.WellFormed.{WellFormed}
 use Rattle.model.specs.Commands.{execute, run}
-use Rattle.model.specs.Bytes.{stateSize, stateBytes, commandSize, commandBytes, commandsIn, answerSize, makeCall, runCall}
+use Rattle.layout.specs.Bytes.{stateSize, stateBytes, commandSize, commandBytes, commandsIn, answerSize, makeCall, runCall}
 use Rattle.lists.specs.Rows.{joined}
 use Rattle.model.specs.Statements.{InRange}
-use Rattle.soundness.proofs.Reset.{reset-wellFormed, makes-exactly}
+use Rattle.well_formed.proofs.Reset.{reset-wellFormed, makes-exactly}
 use Rattle.effects.proofs.Kept.{wellFormed-kept}
 use Rattle.theorems.proofs.DemandThree.{reset-strict}
-use Rattle.encoding.specs.Statements.{Sized}
+use Rattle.layout.specs.Statements.{Sized}
 use Rattle.encoding.proofs.RoundTrip.{state-read-back, state-encoded}
 use Rattle.encoding.proofs.Commands.{commands-read-back}
-use Rattle.exports.specs.Statements.{Strict, ranFresh, RunStrict, ListStrict}
+use Rattle.layout.specs.CallStatements.{Strict, ranFresh, RunStrict, ListStrict}
 use Rattle.exports.proofs.Commands.{commands-length}
 use Rattle.exports.proofs.Buffers.{room-enough}
 use Rattle.exports.proofs.Calls.{ranOver, run-fit}

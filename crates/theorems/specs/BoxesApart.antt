@@ -15,5 +15,8 @@ pub record BoxesApart (n m : ℕ) (b : Ledger) (s : Controller) : Type 0 where
   pub m-same : s .m ≡ m
   pub top-m : sortDown (currentPriorities m s) ≡ take m (sortDown (collection n m b s))
   pub boxes-placed : Placement n m b s (inBoxes s)
-  pub box-priority : (k : ℕ) → k < m → (coreAt s k) .message .filled ≡ true → (1 ≤ (coreAt s k) .message .source .0) × ((coreAt s k) .message .priority ≡ requestPriority b ((coreAt s k) .message .source .0))
-  pub none-higher : (P : ℕ → ℕ) → Placement n m b s P → (j : ℕ) → getD (sortDown (row m (given b P))) j 0 ≤ getD (sortDown (currentPriorities m s)) j 0
+  pub box-priority :
+      (k : ℕ) → k < m → (coreAt s k) .message .filled ≡ true →
+      (1 ≤ (coreAt s k) .message .source .0) × ((coreAt s k) .message .priority ≡ requestPriority b ((coreAt s k) .message .source .0))
+  pub none-higher :
+      (P : ℕ → ℕ) → Placement n m b s P → (j : ℕ) → getD (sortDown (row m (given b P))) j 0 ≤ getD (sortDown (currentPriorities m s)) j 0

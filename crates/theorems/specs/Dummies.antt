@@ -8,13 +8,13 @@ use lib.Dec.{eqb}
 use Rattle.model.specs.declared.Core.{Core}
 use Rattle.model.specs.declared.Controller.{Controller}
 use Rattle.model.specs.declared.Command.{Command}
-use Rattle.model.specs.declared.Command.the-variants.{SetSourcePriority, Mask, Unmask, SetCorePriority, Trigger, Claim, Redeliver, Complete}
+use Rattle.model.specs.declared.Command.the-variants.{OnSource, OnCore}
+use Rattle.model.specs.declared.SourceAction.the-variants.{SetSourcePriority, Mask, Unmask, Trigger, Redeliver, Complete}
 use Rattle.model.specs.Records.{indexOf, sourceAt, coreAt, withDelivered, emptyBox, coreWith, controllerWith, withCores, withSource, reset, answer}
 use Rattle.model.specs.Requests.{currentPriority}
 use Rattle.lists.specs.Walks.{some}
-use Rattle.model.specs.Commands.{effect, answeredId, execute}
+use Rattle.model.specs.Commands.{sourceRefusal, coreRefusal, effect, answeredId, execute}
 use Rattle.model.specs.Behaviours.{Behaviour}
-use Rattle.model.specs.Statements.{priorityOutOfRange}
 
 -- ---- the dummies of document 01
 
@@ -44,14 +44,13 @@ someFilled s = some (s .m) (λ k. (coreAt s k) .message .filled)
 
 -- A triggered request is marked delivered, though no box takes it.
 abbrev pub marked : Command → Controller → Controller
-marked (SetSourcePriority id p) s = s
-marked (Mask id) s = s
-marked (Unmask id) s = s
-marked (SetCorePriority k p) s = s
-marked (Trigger id) s = withSource s (indexOf id) (withDelivered true (sourceAt s (indexOf id)))
-marked (Claim k) s = s
-marked (Redeliver id) s = s
-marked (Complete id) s = s
+marked (OnSource id (SetSourcePriority p)) s = s
+marked (OnSource id Mask) s = s
+marked (OnSource id Unmask) s = s
+marked (OnSource id Trigger) s = withSource s (indexOf id) (withDelivered true (sourceAt s (indexOf id)))
+marked (OnSource id Redeliver) s = s
+marked (OnSource id Complete) s = s
+marked (OnCore k a) s = s
 
 -- The first delivery is right. While a box is filled an accepted command has its effect and nothing settles: a triggered request is
 -- marked delivered and goes into no box.
@@ -84,6 +83,11 @@ freshWhenRefused s c =
 abbrev pub coreAsSource : Behaviour
 coreAsSource s c = cond (eqb ((execute s c) .number) 3) (answer s 4 0 0) (execute s c)
 
+-- What is checked of a command after its id or core number.
+abbrev pub laterRefusal : Controller → Command → ℕ
+laterRefusal s (OnSource id a) = sourceRefusal s (indexOf id) a
+laterRefusal s (OnCore k a) = coreRefusal s (k .0) a
+
 -- The priority is checked before the id: 5 where 4 is due.
 abbrev pub priorityFirst : Behaviour
-priorityFirst s c = cond (eqb ((execute s c) .number) 4 && priorityOutOfRange s c) (answer s 5 0 0) (execute s c)
+priorityFirst s c = cond (eqb ((execute s c) .number) 4 && eqb (laterRefusal s c) 5) (answer s 5 0 0) (execute s c)

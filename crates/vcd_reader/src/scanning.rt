@@ -99,7 +99,6 @@ pub fn is_digit(b: u8) -> bool
 }
 
 // Whether a digit more takes a number past 2^64 - 1, which is ten times TENTH and 5.
-// Rules out: a time 2^64 that wraps to 0 (`time_wraps`).
 fn passes(value: u64, d: u64) -> bool
     requires { ⌜ d ≤ 9 ⌝ }
     ensures { λ r. ⌜ r ≡ ltb maxTime (10 * value + d) ⌝ }

@@ -70,7 +70,6 @@ fn strobe(r: Reader) -> Strobe
     readers::strobe_with(number, t.number, 0)
 }
 
-// Rules out: a 65,535th command refused by 19 (`last_command_refused`).
 fn end_stamp(r: Reader, at: u64) -> Read
     ensures { λ a. ⌜ a ≡ endStamp at r ⌝ }
 {

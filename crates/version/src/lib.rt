@@ -3,7 +3,6 @@ ghost use mathlib.Core.Path.{_≡_};
 ghost use Rattle.version.specs.Version.{versionOf};
 
 // The version, as the header's PSIC_VERSION writes it.
-// Rules out: a number that is another version's (`minor_for_major`).
 #[no_mangle]
 pub extern "C" fn psic_version() -> u32
     ensures { λ r. ⌜ r ≡ versionOf 1 0 0 ⌝ }

@@ -3,6 +3,7 @@
 use Prim.Native.Nat.{ℕ, _+_, _/_, _<_}
 use mathlib.Core.List.{List}
 use native.Mathlib.Omega.{arith}
+use Rattle.model.specs.Records.{maxSources}
 use Rattle.lists.specs.Walks.{leftHalf}
 use Rattle.arbitration.proofs.Keys.{at-most-one, highest-inside, Beside, beside}
 use borrow.Fn.Kinds.{In}
@@ -100,12 +101,15 @@ highest-highest-requires-2 : (t : ℕ) → highest-lts.Need-highest-requires-2 (
 highest-highest-requires-2 t c κs = omega arith
 
 -- both halves' answers lie in the array
-left-inside : (t : ℕ) (c : highest-lts.After-highest2 (highest-below t, highest.Post) (highest-at t) highest.Post) → c .before .highest .result < 128
+left-inside :
+    (t : ℕ) (c : highest-lts.After-highest2 (highest-below t, highest.Post) (highest-at t) highest.Post) →
+    c .before .highest .result < maxSources
 left-inside t c =
     let a = c .before .before .before .before .args in
     omega (arith, highest-inside (a .keys .now) (a .lo) (leftHalf (a .len)) (c .before .highest .result) (omega arith) (c .before .highest .ensures))
 
-right-inside : (t : ℕ) (c : highest-lts.After-highest2 (highest-below t, highest.Post) (highest-at t) highest.Post) → c .highest2 .result < 128
+right-inside :
+    (t : ℕ) (c : highest-lts.After-highest2 (highest-below t, highest.Post) (highest-at t) highest.Post) → c .highest2 .result < maxSources
 right-inside t c =
     let a = c .before .before .before .before .args in
     omega (arith, highest-inside (a .keys .now) (a .lo + leftHalf (a .len)) (a .len / 2) (c .highest2 .result) (omega arith) (c .highest2 .ensures))

@@ -17,35 +17,41 @@ returns-2 c = id-high (c .before .before .before .args .c) (omega arith) (c .if2
 returns-3 : tie.Need-returns-3
 returns-3 c = priority-low (c .before .before .before .before .before .args .c) (omega arith) (omega arith) (c .if3 .taken)
 
+cast-top-priority : tie.Need-cast-top-priority
+cast-top-priority c = search needs
+
+top-priority-requires : tie.Need-top-priority-requires
+top-priority-requires c κs = search needs
+
+cast-if4 : tie.Need-cast-if4
+cast-if4 c = search needs
+
 returns-4 : tie.Need-returns-4
 returns-4 c =
-    priority-high
-    (c .before .before .before .before .before .before .before .args .c)
-    (omega arith)
-    (omega arith)
-    (omega arith)
-    (c .if4 .taken)
+    priority-high (c .before .before .before .before .before .before .before .before .args .c) (omega arith) (omega arith) (omega arith)
+    (omega (arith, c .if4 .taken, c .before .before .top-priority .ensures))
 
 returns-5 : tie.Need-returns-5
 returns-5 c =
-    not-above
-    (c .before .before .before .before .before .before .before .before .before .before .args .c)
-    (omega arith)
-    (omega arith)
-    (omega arith)
-    (omega arith)
-    (c .if5 .taken)
+    not-above (c .before .before .before .before .before .before .before .before .before .before .before .args .c) (omega arith) (omega arith) (omega arith)
+    (omega (arith, c .before .before .before .if4 .left, c .before .before .before .before .before .top-priority .ensures)) (c .if5 .taken)
 
 returns-6 : tie.Need-returns-6
 returns-6 c =
-    clean-only
-    (c .before .before .before .before .before .before .before .before .before .before .before .args .c)
-    (omega arith)
-    (omega arith)
-    (omega arith)
-    (omega arith)
-    (c .before .if5 .left)
+    clean-only (c .before .before .before .before .before .before .before .before .before .before .before .before .args .c) (omega arith) (omega arith) (omega arith)
+    (omega (arith, c .before .before .before .before .if4 .left, c .before .before .before .before .before .before .top-priority .ensures)) (c .before .if5 .left)
 
 pub claimable-spec : {M : Type 1} → statement M
 claimable-spec =
-    tie.close (tie.spec returns cast-if2 returns-2 returns-3 returns-4 returns-5 returns-6)
+    tie.close
+    (tie.spec
+    returns
+    cast-if2
+    returns-2
+    returns-3
+    cast-top-priority
+    top-priority-requires
+    cast-if4
+    returns-4
+    returns-5
+    returns-6)

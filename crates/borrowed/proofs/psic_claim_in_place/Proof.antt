@@ -40,7 +40,7 @@ use Rattle.model.specs.declared.Core.{Core}
 use Rattle.model.specs.declared.Taken.{Taken}
 use Rattle.model.specs.declared.Claimed.{Claimed}
 use Rattle.model.specs.Records.{claimedAs}
-use Rattle.model.specs.Borrowed.{takenFrom}
+use Rattle.borrowed.specs.Lent.{takenFrom}
 use Rattle.model.proofs.Core as Co
 use Rattle.model.proofs.Core.Laws as Co′
 use Rattle.model.proofs.Taken as Ta

@@ -16,11 +16,11 @@ make-requires c κs = search needs
 loop-holds : tie.Need-loop-holds Inv-loop μ-loop
 loop-holds c = search needs
 
-set-source-priority-requires : tie.Need-set-source-priority-requires Inv-loop μ-loop
-set-source-priority-requires c κs = search needs
+execute-requires : tie.Need-execute-requires Inv-loop μ-loop
+execute-requires c κs = search needs
 
-unmask-requires : tie.Need-unmask-requires Inv-loop μ-loop
-unmask-requires c κs = search needs
+execute-requires-2 : tie.Need-execute-requires-2 Inv-loop μ-loop
+execute-requires-2 c κs = search needs
 
 add-id : tie.Need-add-id Inv-loop μ-loop
 add-id c = search needs
@@ -42,8 +42,8 @@ start-spec =
     μ-loop
     make-requires
     loop-holds
-    set-source-priority-requires
-    unmask-requires
+    execute-requires
+    execute-requires-2
     add-id
     loop-less
     loop-again

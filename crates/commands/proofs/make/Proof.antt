@@ -1,6 +1,7 @@
 -- `commands::make` meets its contract: the test of the sizes chooses between the two controllers after a reset. Assumes nothing.
+use Rattle.model.specs.Commands.{make}
+use Rattle.lists.proofs.Bools.{failing, passing}
 use borrow.Author.Needs.{needs}
-use Rattle.commands.proofs.Answering.{makes-none, makes}
 use Rattle.commands.proofs.make.Statement.{statement}
 use Rattle.commands.proofs.make.Tie as tie
 
@@ -14,20 +15,18 @@ refused-requires : tie.Need-refused-requires
 refused-requires c κs = search needs
 
 returns : tie.Need-returns
-returns c =
-    let tested = c .before .before .before in
-    makes-none (tested .before .args .n) (tested .before .args .m) (tested .sizes-in-range .ensures) (c .before .before .if1 .taken) (c .before .reset .ensures) (c .refused .ensures)
+unfolding make
+returns c = rw (c .refused .ensures, c .before .reset .ensures, failing (c .before .before .before .sizes-in-range .ensures) (c .before .before .if1 .taken))
 
 reset-requires-2 : tie.Need-reset-requires-2
 reset-requires-2 c κs = search needs
 
-resting-requires : tie.Need-resting-requires
-resting-requires c κs = search needs
+accepted-requires : tie.Need-accepted-requires
+accepted-requires c κs = search needs
 
 returns-2 : tie.Need-returns-2
-returns-2 c =
-    let tested = c .before .before .before in
-    makes (tested .before .args .n) (tested .before .args .m) (tested .sizes-in-range .ensures) (c .before .before .if1 .left) (c .before .reset2 .ensures) (c .resting .ensures)
+unfolding make
+returns-2 c = rw (c .accepted .ensures, c .before .reset2 .ensures, passing (c .before .before .before .sizes-in-range .ensures) (c .before .before .if1 .left))
 
 pub make-spec : {M : Type 1} → statement M
 make-spec =
@@ -38,5 +37,5 @@ make-spec =
     refused-requires
     returns
     reset-requires-2
-    resting-requires
+    accepted-requires
     returns-2)

@@ -1,7 +1,7 @@
 -- `encoding::command` meets its contract: an arm of a number knows the number, and the last arm that it is none of 0 to 7, for which
 -- `commandOf` has its last case. Assumes nothing.
 use borrow.Author.Tests.{ne-eqb}
-use Rattle.model.specs.Encoding.{commandOf}
+use Rattle.layout.specs.Commands.{commandOf}
 use Rattle.encoding.proofs.command.Statement.{statement}
 use Rattle.encoding.proofs.command.Tie as tie
 

@@ -38,7 +38,8 @@ source-flags-requires c κs = omega arith
 returns-2 : tie.Need-returns-2 Inv-loop μ-loop Inv-loop2 μ-loop2
 returns-2 c =
     let tested = c .before .source-flags in
-    no-source-flags (c .before .before .before .before .before .before .args .b .now) (c .before .before .before .loop .passed) (omega arith)
+    no-source-flags (c .before .before .before .before .before .before .args .b .now) (c .before .before .before .loop .passed)
+    (omega arith)
     (sym (tested .ensures) ∙ not-true (tested .result) (c .if2 .taken))
 
 add-passed : tie.Need-add-passed Inv-loop μ-loop Inv-loop2 μ-loop2

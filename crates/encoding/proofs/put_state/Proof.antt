@@ -108,7 +108,8 @@ returns : tie.Need-returns Inv-loop μ-loop Inv-loop2 μ-loop2
 returns c =
     let at = c .before .loop2 in
     all-written (c .before .before .before .before .before .before .before .before .before .before .before .before .before .args .t2)
-    (at .b) (c .before .before .before .loop .written) (at .cores-written) (at .inv) (c .before .before .loop-test .left) (c .loop2-test .left)
+    (at .b) (c .before .before .before .loop .written) (at .cores-written) (at .inv) (c .before .before .loop-test .left)
+    (c .loop2-test .left)
 
 pub put-state-spec : {M : Type 1} → statement M
 put-state-spec =

@@ -39,7 +39,8 @@ returns c =
     let a = c .before .before .before .before .before .before .before .args in
     let word-1 = c .before .before .before .before .before .word-at in
     let word-2 = c .before .word-at2 in
-    source-read (a .b .now) (a .i) (word-1 .result) (word-2 .result) (c .source-with .result) (word-1 .ensures) (word-2 .ensures) (c .source-with .ensures)
+    source-read (a .b .now) (a .i) (word-1 .result) (word-2 .result) (c .source-with .result) (word-1 .ensures) (word-2 .ensures)
+    (c .source-with .ensures)
 
 pub source-from-spec : {M : Type 1} → statement M
 source-from-spec =

@@ -4,7 +4,7 @@ use borrow.Author.Needs.{needs}
 use borrow.Author.Tests.{not-true, not-false}
 use mathlib.Core.Path.{_≡_, sym, _∙_}
 use mathlib.Core.Bool.{true}
-use Rattle.model.specs.Bytes.{isState}
+use Rattle.layout.specs.Bytes.{isState}
 use Rattle.exports.proofs.Buffers.{state-size}
 use Rattle.exports.proofs.Calls.{bad-number, bad-bytes, execute-answered}
 use Rattle.exports.proofs.psic_execute.Statement.{statement}

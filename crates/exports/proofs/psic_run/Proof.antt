@@ -10,7 +10,7 @@ use mathlib.Core.Bool.{true}
 use mathlib.Core.Logic.{⊎-elim}
 use borrow.Author.Tests.{not-true, not-false}
 use Rattle.model.specs.declared.Decoded.the-variants.{Unknown}
-use Rattle.model.specs.Bytes.{isState}
+use Rattle.layout.specs.Bytes.{isState}
 use Rattle.exports.proofs.Commands.{command-read, commands-there, commands-end}
 use Rattle.exports.proofs.Buffers.{state-size, no-state, not-whole, no-room}
 use Rattle.exports.proofs.Calls.{run-refused}

@@ -32,7 +32,10 @@ cast-at : tie.Need-cast-at Inv-loop μ-loop
 cast-at c = search needs
 
 -- the dirty box names a source
-held : (c : tie.After-struct-known2 Inv-loop μ-loop) → Holding (c .before .before .before .before .loop .state) (coreAt (c .before .before .before .before .loop .state) (c .before .before .before .before .loop .k))
+held :
+    (c : tie.After-struct-known2 Inv-loop μ-loop) →
+    Holding (c .before .before .before .before .loop .state)
+    (coreAt (c .before .before .before .before .loop .state) (c .before .before .before .before .loop .k))
 held c = named _ _ _ _ (c .before .before .before .before .loop .inv) (c .before .before .before .loop-test .taken) (c .before .if1 .taken)
 
 sub-at : tie.Need-sub-at Inv-loop μ-loop

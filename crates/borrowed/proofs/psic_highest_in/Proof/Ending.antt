@@ -82,7 +82,7 @@ module _ {M : Type 1} (𝓤 : URA M) (H : Heap 𝓤) (A : Atoms 𝓤) (W : Given
       move ! (1 ∷ 31 ∷ []) $ shuts-slice ! tt So.the-row q′ (s .now) (s .ptr .0) (s .ptr .1) $
       -- [the list's token; the keys' elements; _14; …]
       assigns ! (addr ! (from ! (stop !))) (from ! (stop !)) (init ! 2 refl (tt, tt)) $
-      move ! (1 ∷ []) $ feqI ! ℕ (length ks) 128 (f .full) $ fjoin ! $ use1 W (‵ (partAt Row fullShare ks (B .l₄) 0)) (array-whole 𝓤 H A W u32 fullShare 128 ks (B .l₄) 0) $
+      move ! (1 ∷ []) $ feqI ! ℕ (length ks) 128 (f .filling .whole) $ fjoin ! $ use1 W (‵ (partAt Row fullShare ks (B .l₄) 0)) (array-whole 𝓤 H A W u32 fullShare 128 ks (B .l₄) 0) $
       lft-new ! tt (λ α. move ! (1 ∷ []) $
       use1 W (later (some (λ (γ′ : GName). ‵ (ShrRef (named 0) (α ∷ []) Row .own (lent-keys γ′) (vptr (B .l₄) 0 ∷ [])) ⊛ ‵ (flent (α ∷ []) (partAt Row fullShare ks (B .l₄) 0))))) (lends-shr 𝓤 H A W Row (named 0) (α ∷ []) fullShare ks (B .l₄) 0) $ await ! tt $ pick ! (λ γ′.
       split ! $ owned ! Ex.the-row (Is Ex.the-row) (LL.makes Ex.the-type Ex′.the-plain 𝓤 H A) x (extents x) spelled $ move ! (1 ∷ 3 ∷ 0 ∷ []) $

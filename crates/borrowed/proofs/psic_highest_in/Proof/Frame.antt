@@ -30,7 +30,7 @@ use denote.Triple.Walked.{says, Stays, stay-none-slice, walkOf, ends-at}
 use denote.Exit.{yes}
 use Rattle.model.specs.declared.Source.{Source}
 use Rattle.model.specs.declared.Found.{Found}
-use Rattle.model.specs.Borrowed.{foundIn}
+use Rattle.borrowed.specs.Lent.{foundIn}
 use Rattle.borrowed.specs.declared.Extent.{Extent}
 use Rattle.borrowed.specs.Keys.{extentOf}
 use Rattle.borrowed.proofs.Filling.{Filled, Further}

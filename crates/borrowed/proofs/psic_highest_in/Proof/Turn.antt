@@ -74,16 +74,16 @@ module _ {M : Type 1} (𝓤 : URA M) (H : Heap 𝓤) (A : Atoms 𝓤) (W : Given
   in-list = omega (arith, below, read-inside (length l))
 
   in-keys : i < length (f .keys)
-  in-keys = omega (arith, below, read-inside (length l), f .full)
+  in-keys = omega (arith, below, read-inside (length l), f .filling .whole)
 
   by-8 : i * 8 < 2 ^ 64
   by-8 = omega (arith, in-list, room .1)
 
   by-4 : i * 4 < 2 ^ 64
-  by-4 = omega (arith, in-keys, f .full)
+  by-4 = omega (arith, in-keys, f .filling .whole)
 
   next : i + 1 < 2 ^ 64
-  next = omega (arith, in-keys, f .full)
+  next = omega (arith, in-keys, f .filling .whole)
 
   pub copies : Turns 𝓤 H A W at-mem run κ q s 𝓣 q′ B f
   unfolding afterTurn

@@ -1,0 +1,129 @@
+// What is checked of a command on a sound state: its id or core number, then what its own line of "Numbers for no" says. Nothing is changed.
+ghost use Prim.Native.Nat.{_≤_};
+ghost use mathlib.Core.Path.{_≡_};
+ghost use mathlib.Core.Bool.{Bool, not, _&&_};
+ghost use lib.Dec.{ltb, leb};
+ghost use Rattle.lists.specs.Numbers.{between};
+ghost use Rattle.model.specs.Records.{maxCores};
+ghost use Rattle.model.specs.Priorities.{topPriority};
+ghost use Rattle.model.specs.Requests.{boxed as boxedIn};
+ghost use Rattle.checks.specs.Numbers.{sourceNumber, coreNumber};
+use model::CORES;
+use model::Core;
+use model::CoreAction;
+use model::CoreId;
+use model::Source;
+use model::SourceAction;
+use model::SourceId;
+
+// Whether the id is 1 to n.
+pub fn names_source(n: u16, id: SourceId) -> bool
+    ensures { λ r. ⌜ r ≡ between 1 n (id .0) ⌝ }
+{
+    if id.0 == 0 {
+        return false;
+    }
+    id.0 <= n
+}
+
+// Whether the core's number is 0 to m - 1.
+pub fn names_core(m: u16, core: CoreId) -> bool
+    ensures { λ r. ⌜ r ≡ ltb (core .0) m ⌝ }
+{
+    core.0 < m
+}
+
+// Whether a filled box of the first m cores names the source.
+fn boxed(cores: [Core; CORES], m: usize, id: SourceId) -> bool
+    requires { ⌜ m ≤ maxCores ⌝ }
+    ensures { λ r. ⌜ r ≡ boxedIn cores m (id .0) ⌝ }
+{
+    let mut k = 0;
+    while k < m {
+        if cores[k].message.filled {
+            if cores[k].message.source.0 == id.0 {
+                return true;
+            }
+        }
+        k += 1;
+    }
+    false
+}
+
+// Whether the request of a source record is claimed: pending, delivered, and in no box.
+pub fn is_claimed(s: Source, cores: [Core; CORES], m: usize, id: SourceId) -> bool
+    requires { ⌜ m ≤ maxCores ⌝ }
+    ensures { λ r. ⌜ r ≡ s .pending && s .delivered && not (boxedIn cores m (id .0)) ⌝ }
+{
+    if !s.pending {
+        return false;
+    }
+    if !s.delivered {
+        return false;
+    }
+    !boxed(cores, m, id)
+}
+
+// Whether a source may have the priority: 1 to the top one of n sources.
+fn is_source_priority(n: u16, p: u16) -> bool
+    ensures { λ r. ⌜ r ≡ between 1 (topPriority n) p ⌝ }
+{
+    if p == 0 {
+        return false;
+    }
+    p as u32 <= records::top_priority(n)
+}
+
+// The number for no of an action on a source's record r, 0 for none; claimed says whether its request is.
+pub fn source_number(n: u16, r: Source, claimed: bool, a: SourceAction) -> u8
+    ensures { λ k. ⌜ k ≡ sourceNumber n r claimed a ⌝ }
+{
+    match a {
+        SourceAction::SetSourcePriority(p) => {
+            if is_source_priority(n, p) {
+                return 0;
+            }
+            5
+        }
+        SourceAction::Mask => 0,
+        SourceAction::Unmask => 0,
+        SourceAction::Trigger => {
+            if r.pending {
+                return 6;
+            }
+            0
+        }
+        SourceAction::Redeliver => {
+            if claimed {
+                return 0;
+            }
+            8
+        }
+        SourceAction::Complete => {
+            if claimed {
+                return 0;
+            }
+            8
+        }
+    }
+}
+
+// The number for no of an action on a core's record c, 0 for none.
+pub fn core_number(n: u16, c: Core, a: CoreAction) -> u8
+    ensures { λ k. ⌜ k ≡ coreNumber n c a ⌝ }
+{
+    match a {
+        CoreAction::SetCorePriority(p) => {
+            if p as u32 <= records::top_priority(n) {
+                return 0;
+            }
+            5
+        }
+        CoreAction::Claim => {
+            if c.message.filled {
+                return 0;
+            }
+            7
+        }
+    }
+}

@@ -1,0 +1,2 @@
+-- From the tests that the code makes to the answer of the definition.
+mod Cores

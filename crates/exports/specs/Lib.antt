@@ -1,2 +1,0 @@
--- What is claimed of the calls on bytes beside their contracts.
-pub mod Statements

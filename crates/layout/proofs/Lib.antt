@@ -1,0 +1,2 @@
+-- The worked cases of the bytes, each list by one computation.
+mod BytesExamples

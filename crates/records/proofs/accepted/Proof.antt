@@ -1,0 +1,10 @@
+-- `records::accepted` meets its contract, which is the answer that it builds. Assumes nothing.
+use mathlib.Core.Path.{refl}
+use Rattle.records.proofs.accepted.Statement.{statement}
+use Rattle.records.proofs.accepted.Tie as tie
+
+returns : tie.Need-returns
+returns c = refl
+
+pub accepted-spec : {M : Type 1} → statement M
+accepted-spec = tie.close (tie.spec returns)

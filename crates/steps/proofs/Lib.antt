@@ -1,2 +1,0 @@
--- Laws for the loops over the cores.
-mod CoreLoops

@@ -1,0 +1,13 @@
+-- `well_formed::lesser` meets its contract: the test says which of the two is the lesser. Assumes nothing.
+use native.Mathlib.Omega.{arith}
+use Rattle.well_formed.proofs.lesser.Statement.{statement}
+use Rattle.well_formed.proofs.lesser.Tie as tie
+
+returns : tie.Need-returns
+returns c = omega arith
+
+returns-2 : tie.Need-returns-2
+returns-2 c = omega arith
+
+pub lesser-spec : {M : Type 1} → statement M
+lesser-spec = tie.close (tie.spec returns returns-2)

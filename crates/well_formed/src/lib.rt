@@ -1,0 +1,332 @@
+// The sound-state test and its parts, on any record whatever: one pass over the cores, one over the sources.
+ghost use Prim.Native.Nat.{_≤_, min, max};
+ghost use mathlib.Core.Path.{_≡_};
+ghost use mathlib.Core.Bool.{true};
+ghost use Rattle.model.specs.Records.{maxSources};
+ghost use Rattle.model.specs.Priorities.{topPriority};
+ghost use Rattle.lists.specs.Numbers.{between};
+ghost use Rattle.model.specs.WellFormed.{sizesInRange, isEmptyBox, isResetSource, isResetCore, consistent, wellFormed};
+ghost use Rattle.model.specs.Statements.{InRange};
+ghost use Rattle.well_formed.specs.Survey.{surveyWith, inconsistentSurvey, coveredPriority, surveyOf};
+ghost use Rattle.well_formed.specs.Loops.{isIdle, coreFits, backs, withCore, coresSurvey, sourcesSurvey};
+use model::CORES;
+use model::Controller;
+use model::Core;
+use model::MessageBox;
+use model::SOURCES;
+use model::Source;
+
+// What one pass over a state says of it. Where the state isn't consistent, every other field is false or 0.
+pub struct Surveyed {
+    // sizes, ranges and blank values are right, and each filled box names its request; no source lies in two boxes
+    pub consistent: bool,
+    // no box is dirty
+    pub clean: bool,
+    // the least current priority
+    pub lowest: u16,
+    // the greatest configured priority under a filled box, 0 if no box is filled
+    pub covered: u16,
+    // the greatest priority of a candidate, 0 if there is none
+    pub waiting: u16,
+}
+
+// Sizes in range: 1 to 128 sources, 1 to 32 cores.
+pub fn sizes_in_range(n: u16, m: u16) -> bool
+    ensures { λ r. ⌜ r ≡ sizesInRange n m ⌝ }
+{
+    if n == 0 {
+        return false;
+    }
+    if SOURCES < n as usize {
+        return false;
+    }
+    if m == 0 {
+        return false;
+    }
+    m as usize <= CORES
+}
+
+// Whether a number is "1 to top"; an id, 1 to n.
+fn in_range(p: u16, top: u16) -> bool
+    ensures { λ r. ⌜ r ≡ between 1 top p ⌝ }
+{
+    if p == 0 {
+        return false;
+    }
+    p <= top
+}
+
+// Whether a box is blank: not filled, not dirty, id 0, priority 0.
+fn is_empty_box(b: MessageBox) -> bool
+    ensures { λ r. ⌜ r ≡ isEmptyBox b ⌝ }
+{
+    if b.filled {
+        return false;
+    }
+    if b.dirty {
+        return false;
+    }
+    if b.source.0 != 0 {
+        return false;
+    }
+    b.priority == 0
+}
+
+// Whether a core is fresh: at 0, its box empty.
+fn is_reset_core(c: Core) -> bool
+    ensures { λ r. ⌜ r ≡ isResetCore c ⌝ }
+{
+    if c.configured != 0 {
+        return false;
+    }
+    is_empty_box(c.message)
+}
+
+// Whether a source has no request: nothing pending, delivered off, the request's priority 0.
+fn is_idle(s: Source) -> bool
+    ensures { λ r. ⌜ r ≡ isIdle s ⌝ }
+{
+    if s.pending {
+        return false;
+    }
+    if s.delivered {
+        return false;
+    }
+    s.priority == 0
+}
+
+// Whether a source is fresh: masked, of configured priority 1, with no request. So nested, the compiler merges the tests.
+fn is_reset_source(s: Source) -> bool
+    ensures { λ r. ⌜ r ≡ isResetSource s ⌝ }
+{
+    if s.configured != 1 {
+        return false;
+    }
+    if !s.masked {
+        return false;
+    }
+    is_idle(s)
+}
+
+// Whether "core priorities 0 to top" and the blank values hold of a core: a filled box has an id 1 to n, an unfilled one is empty.
+fn core_in_range(c: Core, n: u16, top: u16) -> bool
+    ensures { λ r. ⌜ r ≡ coreFits n top c ⌝ }
+{
+    if top < c.configured {
+        return false;
+    }
+    if c.message.filled {
+        in_range(c.message.source.0, n)
+    } else {
+        is_empty_box(c.message)
+    }
+}
+
+// Whether a filled box's source is "pending and delivered, with the same priority, strictly above its core's configured priority"; a dirty
+// box need not be above. That the id is in range is tested before.
+fn is_backed(c: Core, s: Source) -> bool
+    ensures { λ r. ⌜ r ≡ backs c s ⌝ }
+{
+    if !s.pending {
+        return false;
+    }
+    if !s.delivered {
+        return false;
+    }
+    if s.priority != c.message.priority {
+        return false;
+    }
+    if c.message.dirty {
+        return true;
+    }
+    c.configured < c.message.priority
+}
+
+fn lesser(a: u16, b: u16) -> u16
+    ensures { λ r. ⌜ r ≡ min a b ⌝ }
+{
+    if b < a { b } else { a }
+}
+
+fn greater(a: u16, b: u16) -> u16
+    ensures { λ r. ⌜ r ≡ max a b ⌝ }
+{
+    if a < b { b } else { a }
+}
+
+// The configured priority under a filled box; 0 where the box is empty.
+fn covered_priority(c: Core) -> u16
+    ensures { λ r. ⌜ r ≡ coveredPriority c ⌝ }
+{
+    if c.message.filled { c.configured } else { 0 }
+}
+
+// ---- the survey's values. Every literal of one stands here.
+
+fn inconsistent() -> Surveyed
+    ensures { λ r. ⌜ r ≡ inconsistentSurvey ⌝ }
+{
+    Surveyed {
+        consistent: false,
+        clean: false,
+        lowest: 0,
+        covered: 0,
+        waiting: 0,
+    }
+}
+
+fn found(clean: bool, lowest: u16, covered: u16, waiting: u16) -> Surveyed
+    ensures { λ r. ⌜ r ≡ surveyWith true clean lowest covered waiting ⌝ }
+{
+    Surveyed {
+        consistent: true,
+        clean,
+        lowest,
+        covered,
+        waiting,
+    }
+}
+
+// ---- the passes
+
+// What is found so far, with one core more.
+fn with_core(v: Surveyed, c: Core) -> Surveyed
+    ensures { λ r. ⌜ r ≡ withCore v c ⌝ }
+{
+    let mut clean = v.clean;
+    if c.message.dirty {
+        clean = false;
+    }
+    let lowest = lesser(v.lowest, records::current_priority(c));
+    let covered = greater(v.covered, covered_priority(c));
+    found(clean, lowest, covered, v.waiting)
+}
+
+// The pass over the cores: those in use have priorities "0 to top" and boxes that are backed, each by a source of its own, and the others
+// are fresh. The loop over the spare records has no early answer, so that the compiler can test several at once.
+fn survey_cores(s: Controller, top: u16) -> Surveyed
+    requires { ⌜ InRange (s .n) (s .m) × (top ≡ topPriority (s .n)) ⌝ }
+    ensures { λ r. ⌜ r ≡ coresSurvey s ⌝ }
+{
+    let m = s.m as usize;
+    let mut seen = [false; SOURCES];
+    let mut v = found(true, records::current_priority(s.cores[0]), 0, 0);
+    let mut k = 0;
+    while k < m {
+        let c = s.cores[k];
+        if !core_in_range(c, s.n, top) {
+            return inconsistent();
+        }
+        if c.message.filled {
+            let at = c.message.source.0 as usize - 1;
+            if seen[at] {
+                return inconsistent();
+            }
+            seen[at] = true;
+            if !is_backed(c, s.sources[at]) {
+                return inconsistent();
+            }
+        }
+        v = with_core(v, c);
+        k += 1;
+    }
+    let mut fresh = true;
+    while k < CORES {
+        if !is_reset_core(s.cores[k]) {
+            fresh = false;
+        }
+        k += 1;
+    }
+    if !fresh {
+        return inconsistent();
+    }
+    v
+}
+
+// The pass over the sources, with what the cores have shown: the first n have priorities "1 to top", and the others are fresh.
+// Each field is read where it is tested, which is cheaper than a copy of the record. The loop over the spare records has no early answer,
+// so that the compiler can test several at once.
+fn survey_sources(v: Surveyed, sources: [Source; SOURCES], n: usize, top: u16) -> Surveyed
+    requires { ⌜ n ≤ maxSources ⌝ }
+    ensures { λ r. ⌜ r ≡ sourcesSurvey v sources n top ⌝ }
+{
+    let mut waiting = 0u16;
+    let mut i = 0;
+    while i < n {
+        if !in_range(sources[i].configured, top) {
+            return inconsistent();
+        }
+        let p = sources[i].priority;
+        if sources[i].pending {
+            if !in_range(p, top) {
+                return inconsistent();
+            }
+            if waiting < p {
+                if records::is_candidate(sources[i]) {
+                    waiting = p;
+                }
+            }
+        } else {
+            if p != 0 {
+                return inconsistent();
+            }
+            if sources[i].delivered {
+                return inconsistent();
+            }
+        }
+        i += 1;
+    }
+    let mut fresh = true;
+    while i < SOURCES {
+        if !is_reset_source(sources[i]) {
+            fresh = false;
+        }
+        i += 1;
+    }
+    if !fresh {
+        return inconsistent();
+    }
+    found(v.clean, v.lowest, v.covered, waiting)
+}
+
+// One pass over a state. Sizes, ids and priorities may be anything that their fields can hold.
+pub fn survey(s: Controller) -> Surveyed
+    ensures { λ r. ⌜ r ≡ surveyOf s ⌝ }
+{
+    let n = s.n;
+    if !sizes_in_range(n, s.m) {
+        return inconsistent();
+    }
+    let top = records::top_priority(n) as u16;
+    let v = survey_cores(s, top);
+    if !v.consistent {
+        return inconsistent();
+    }
+    let sources = s.sources;
+    survey_sources(v, sources, n as usize, top)
+}
+
+// Whether a state's structure is right: document 01, "A sound state", without its clauses on dirty boxes and on what is delivered.
+pub fn is_consistent(s: Controller) -> bool
+    ensures { λ r. ⌜ r ≡ consistent s ⌝ }
+{
+    let v = survey(s);
+    v.consistent
+}
+
+// Whether a state is sound: document 01, "A sound state".
+pub fn well_formed(s: Controller) -> bool
+    ensures { λ r. ⌜ r ≡ wellFormed s ⌝ }
+{
+    let v = survey(s);
+    if !v.consistent {
+        return false;
+    }
+    if !v.clean {
+        return false;
+    }
+    if v.lowest < v.waiting {
+        return false;
+    }
+    v.covered <= v.lowest
+}
