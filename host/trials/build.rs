@@ -8,6 +8,8 @@ fn main() {
         "psic_run",
         "psic_highest_in",
         "psic_claim_in_place",
+        "psic_read",
+        "psic_replay",
     ] {
         println!("cargo:rustc-link-arg-tests=-Wl,--wrap={call}");
     }

@@ -1,9 +1,10 @@
 -- Writing bytes: stores one after another are one run of stores, and runs written from the front make up a state's bytes.
 -- Assumes nothing.
---   word-stores, source-written, core-written, answer-written    one record, from what each store and call leaves
+--   sets-append                                                  two runs of stores, one right behind the other, are one run
+--   word-stores, source-written, core-written, answer-written, command-written    one record, from what each store and call leaves
 --   Written, written-none, source-more, core-more                how far a state is written
 --   all-written                                                  past the last source and the last core the bytes are the state's
-use Prim.Native.Nat.{ℕ, _+_, _*_, _<_, _≤_}
+use Prim.Native.Nat.{ℕ, suc, _+_, _*_, _<_, _≤_}
 use mathlib.Core.Path.{_≡_, refl, sym, _∙_, ap}
 use mathlib.Core.List.{List, [], _∷_, _++_, append-nil, append-assoc}
 use native.Mathlib.Omega.{arith}
@@ -13,11 +14,18 @@ use lib.Seq.{sets, sets-eq, length-sets, take-at, take-all}
 use Rattle.model.specs.declared.Source.{Source}
 use Rattle.model.specs.declared.Core.{Core}
 use Rattle.model.specs.declared.Controller.{Controller}
+use Rattle.model.specs.declared.Command.{Command}
 use Rattle.model.specs.Records.{maxSources, maxCores, noSource, noCore, sourceAt, coreAt}
-use Rattle.layout.specs.Bytes.{word, flagByte, sourceSize, coreSize, stateSize, sourcesFrom, coresFrom, sourceBytes, coreBytes, stateBytes}
+use Rattle.layout.specs.Commands.{numberOf, targetOf, levelOf}
+use Rattle.layout.specs.Bytes.{word, flagByte, sourceSize, coreSize, stateSize, sourcesFrom, coresFrom, sourceBytes, coreBytes, stateBytes, commandBytes}
 use Rattle.lists.specs.Rows.{joined}
 use Rattle.layout.specs.Statements.{Sized}
 use Rattle.lists.proofs.Rows.{joined-more}
+
+pub sets-append :
+    (b : List ℕ) (i j : ℕ) (xs ys : List ℕ) → j ≡ i + length xs → sets (sets b i xs) j ys ≡ sets b i (xs ++ ys)
+sets-append b i j [] ys e = ap (λ (k : ℕ). sets b k ys) (omega arith)
+sets-append b i j (x ∷ xs) ys e = sets-append (set b i x) (suc i) j xs ys (omega arith)
 
 module _ (b : List ℕ) (i : ℕ) where
   pub word-stores : (x y : ℕ) → set (set b i x) (i + 1) y ≡ sets b i (x ∷ y ∷ [])
@@ -47,6 +55,13 @@ module _ (b : List ℕ) (i : ℕ) where
       b₁ ≡ sets (set b i number) (i + 1) (word id) → b₂ ≡ sets b₁ (i + 3) (word cycles) →
       b₂ ≡ sets b i (number ∷ (word id ++ word cycles))
   answer-written number id cycles b₁ b₂ e₁ e₂ = rw (e₂, e₁) (simp towards-suc)
+
+  pub command-written :
+      (c : Command) (number target level : ℕ) (b₁ b₂ : List ℕ) →
+      number ≡ numberOf c → target ≡ targetOf c → level ≡ levelOf c →
+      b₁ ≡ sets (set b i number) (i + 1) (word target) → b₂ ≡ sets b₁ (i + 3) (word level) →
+      b₂ ≡ sets b i (commandBytes c)
+  command-written c number target level b₁ b₂ en et el e₁ e₂ = rw (← en, ← et, ← el) (answer-written number target level b₁ b₂ e₁ e₂)
 
 -- ---- what is written from the front
 

@@ -1,12 +1,12 @@
-// A state as bytes, read and written, with a word and an answer, and a command from its numbers. The layout is that of
+// A state as bytes, read and written, with a word, a command and an answer, and a command from its numbers. The layout is that of
 // model/specs/Bytes.antt. Calls for the exports, which test lengths first; the program cases reads its commands here too.
 ghost use Prim.Native.Nat.{_+_, _<_, _≤_};
 ghost use mathlib.Core.Path.{_≡_};
 ghost use mathlib.Core.List.{_∷_, _++_};
 ghost use lib.ListN.{length};
 ghost use lib.Seq.{sets};
-ghost use Rattle.layout.specs.Commands.{commandOf};
-ghost use Rattle.layout.specs.Bytes.{word, flagByte, wordAt, sourceSize, coreSize, stateSize, sourceBytes, coreBytes, stateBytes, sourceFrom, coreFrom, stateFrom, sourceFlags, coreFlags, isState, answerSize};
+ghost use Rattle.layout.specs.Commands.{commandOf, sourceNumber, coreNumber, sourceLevel, coreLevel, numberOf, targetOf, levelOf};
+ghost use Rattle.layout.specs.Bytes.{word, flagByte, wordAt, sourceSize, coreSize, stateSize, sourceBytes, coreBytes, stateBytes, sourceFrom, coreFrom, stateFrom, sourceFlags, coreFlags, isState, commandSize, commandBytes, answerSize};
 use model::CORES;
 use model::Command;
 use model::Controller;
@@ -29,6 +29,13 @@ const SOURCES_FROM: usize = 4;
 const CORES_FROM: usize = SOURCES_FROM + SOURCE_SIZE * SOURCES;
 
 pub const STATE_SIZE: usize = CORES_FROM + CORE_SIZE * CORES;
+
+// A command's own number, 0 to 7, the id or the core, and the priority, 0 where it has none.
+struct Numbers {
+    number: u8,
+    target: u16,
+    level: u16,
+}
 
 // ---- reading
 
@@ -222,4 +229,57 @@ pub fn put_answer(b: &mut [u8], i: usize, number: u8, id: SourceId, cycles: u16)
     b[i] = number;
     put_word(b, i + 1, id.0);
     put_word(b, i + 3, cycles);
+}
+
+fn numbers_with(number: u8, target: u16, level: u16) -> Numbers
+    ensures { λ r. ⌜ (r .number ≡ number) × (r .target ≡ target) × (r .level ≡ level) ⌝ }
+{
+    Numbers {
+        number,
+        target,
+        level,
+    }
+}
+
+fn source_numbers(id: u16, a: SourceAction) -> Numbers
+    ensures { λ r. ⌜ (r .number ≡ sourceNumber a) × (r .target ≡ id) × (r .level ≡ sourceLevel a) ⌝ }
+{
+    match a {
+        SourceAction::SetSourcePriority(p) => numbers_with(0, id, p),
+        SourceAction::Mask => numbers_with(1, id, 0),
+        SourceAction::Unmask => numbers_with(2, id, 0),
+        SourceAction::Trigger => numbers_with(4, id, 0),
+        SourceAction::Redeliver => numbers_with(6, id, 0),
+        SourceAction::Complete => numbers_with(7, id, 0),
+    }
+}
+
+fn core_numbers(core: u16, a: CoreAction) -> Numbers
+    ensures { λ r. ⌜ (r .number ≡ coreNumber a) × (r .target ≡ core) × (r .level ≡ coreLevel a) ⌝ }
+{
+    match a {
+        CoreAction::SetCorePriority(p) => numbers_with(3, core, p),
+        CoreAction::Claim => numbers_with(5, core, 0),
+    }
+}
+
+// The numbers that name a command.
+fn numbers_of(c: Command) -> Numbers
+    ensures { λ r. ⌜ (r .number ≡ numberOf c) × (r .target ≡ targetOf c) × (r .level ≡ levelOf c) ⌝ }
+{
+    match c {
+        Command::OnSource(id, a) => source_numbers(id.0, a),
+        Command::OnCore(k, a) => core_numbers(k.0, a),
+    }
+}
+
+// Number, target and priority of a command.
+pub fn put_command(b: &mut [u8], i: usize, c: Command)
+    requires { ⌜ i + commandSize ≤ length (now b) ⌝ }
+    ensures { λ r. ⌜ now (b .exit) ≡ sets (now (b .entry)) i (commandBytes c) ⌝ }
+{
+    let x = numbers_of(c);
+    b[i] = x.number;
+    put_word(b, i + 1, x.target);
+    put_word(b, i + 3, x.level);
 }

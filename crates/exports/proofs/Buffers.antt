@@ -1,13 +1,11 @@
 -- The bytes of a state and the room for answers. Assumes nothing.
 --   state-size     bytes that encode a state have its length
---   sets-append    two runs of stores, one right behind the other, are one run
 --   no-state, not-whole, no-room, fits    whether a run of a list fits its buffers
-use Prim.Native.Nat.{ℕ, suc, _+_, _*_, _/_, _%_, _<_, _≤_}
-use mathlib.Core.Path.{_≡_, ap}
-use mathlib.Core.List.{List, [], _∷_, _++_}
+use Prim.Native.Nat.{ℕ, _*_, _/_, _%_, _<_, _≤_}
+use mathlib.Core.Path.{_≡_}
+use mathlib.Core.List.{List}
 use mathlib.Core.Bool.{Bool, true, false, and-false}
-use lib.ListN.{length, set}
-use lib.Seq.{sets}
+use lib.ListN.{length}
 use native.Mathlib.Omega.{arith}
 use lib.Dec.{eqb, leb}
 use borrow.Author.Tests.{eq-eqb, ne-eqb, le-leb, lt-leb, eqb-true, leb-true}
@@ -17,11 +15,6 @@ use Rattle.layout.specs.Bytes.{stateSize, isState, commandSize, answerSize, roo
 pub state-size : (b : List ℕ) → isState b ≡ true → length b ≡ stateSize
 unfolding isState
 state-size b e = eqb-true (length b) stateSize (and-l _ _ (and-l _ _ e))
-
-pub sets-append :
-    (b : List ℕ) (i j : ℕ) (xs ys : List ℕ) → j ≡ i + length xs → sets (sets b i xs) j ys ≡ sets b i (xs ++ ys)
-sets-append b i j [] ys e = ap (λ (k : ℕ). sets b k ys) (omega arith)
-sets-append b i j (x ∷ xs) ys e = sets-append (set b i x) (suc i) j xs ys (omega arith)
 
 -- ---- whether a run of a list fits its buffers
 

@@ -16,10 +16,9 @@ use Rattle.model.specs.declared.Decoded.{Decoded}
 use Rattle.model.specs.declared.Decoded.the-variants.{Unknown, Known}
 use Rattle.model.specs.declared.Answer.{Answer}
 use Rattle.model.specs.Commands.{execute, make, run}
-use Rattle.model.specs.Ledger.{answersTo}
 use Rattle.layout.specs.Commands.{commandOf}
-use Rattle.layout.specs.Bytes.{stateSize, stateBytes, stateFrom, isState, commandsIn, answerBytes, unreadable, packed, Call, callOf, Does, makeCall, executedOn, executeCall, DoesRun, noCount, fitsRun, RunCall, runCallOf, runCall}
-use Rattle.lists.specs.Rows.{joined}
+use Rattle.layout.specs.Bytes.{stateSize, stateBytes, stateFrom, isState, commandsIn, unreadable, packed, Call, callOf, Does, makeCall, executedOn, executeCall, DoesRun, noCount, fitsRun, RunCall, runCallOf, runCall}
+use Rattle.encoding.proofs.Answers.{answersFrom}
 
 done : (r : ℕ) (b : List ℕ) (call : Call) → call ≡ callOf r b → Does r b call
 done r b call e = (sym (ap (λ (x : Call). x .result) e), sym (ap (λ (x : Call). x .bytes) e))
@@ -69,9 +68,6 @@ module _ (number at p : ℕ) (b : List ℕ) where
         answered r b′ a (executeCall number at p b) (executed ∙ rw (f, ← same)) er e′
 
 -- ---- a list of commands
-
-abbrev pub answersFrom : Controller → List Command → List ℕ
-answersFrom s cs = joined answerBytes (answersTo s cs)
 
 -- the run of the commands cs from the state s, over the answers given
 abbrev pub ranOver : List ℕ → Controller → List Command → RunCall

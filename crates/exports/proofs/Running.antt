@@ -6,7 +6,7 @@
 --   taken-all                 no command is left: what the run answers and writes
 use Prim.Native.Nat.{ℕ, _+_, _/_, _%_, _<_, _≤_}
 use mathlib.Core.Path.{_≡_, refl, sym, ap, _∙_}
-use mathlib.Core.List.{List, [], _∷_, _++_}
+use mathlib.Core.List.{List, [], _∷_}
 use mathlib.Core.Bool.{true}
 use lib.ListN.{length, drop}
 use lib.Seq.{sets, length-sets}
@@ -20,23 +20,12 @@ use Rattle.model.specs.Commands.{execute, run}
 use Rattle.layout.specs.Bytes.{stateFrom, stateBytes, isState, DoesRun, runCall, commandSize, commandsIn, answerBytes}
 use Rattle.lists.specs.Rows.{joined}
 use Rattle.exports.proofs.Commands.{commandAt, commands-there}
-use Rattle.exports.proofs.Buffers.{sets-append, fits}
-use Rattle.exports.proofs.Calls.{answersFrom}
+use Rattle.encoding.proofs.Answers.{answersFrom, answers-more}
+use Rattle.exports.proofs.Buffers.{fits}
 
 -- the commands from place i on
 abbrev pub left : List ℕ → ℕ → List Command
 left list i = commandsIn (drop i list)
-
--- an answer written at i, and behind it those to the rest, are the answers from i on
-answers-more :
-    (answers answers′ : List ℕ) (s : Controller) (i : ℕ) (c : Command) (a : Answer) (rest : List Command) →
-    a ≡ execute s c → answers′ ≡ sets answers i (answerBytes a) →
-    sets answers′ (i + commandSize) (answersFrom (a .state) rest) ≡ sets answers i (answersFrom s (c ∷ rest))
-unfolding answersBy joined
-answers-more answers answers′ s i c a rest ea e =
-    ap (λ (b : List ℕ). sets b (i + commandSize) (answersFrom (a .state) rest)) e
-    ∙ sets-append answers i (i + commandSize) (answerBytes a) (answersFrom (a .state) rest) refl
-    ∙ ap (λ (x : Answer). sets answers i (answerBytes x ++ answersFrom (x .state) rest)) ea
 
 module _ (list answers₀ : List ℕ) (s₀ : Controller) where
   pub record Taken (answers : List ℕ) (s : Controller) (i : ℕ) : Type 0 where

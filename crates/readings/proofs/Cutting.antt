@@ -1,14 +1,18 @@
 -- Words of a text joined at a separator, and readings of words joined. Assumes nothing.
 --   cut-joined          the words of both parts, one after the other
 --   readWords-joined    a reading goes on where the first part left it
+--   readWords-commands  a reading only adds to the commands so far, and doesn't depend on them
 use Prim.Native.Nat.{ℕ, suc, _+_}
-use mathlib.Core.Path.{_≡_, refl, ap, _∙_}
-use mathlib.Core.List.{List, [], _∷_, _++_}
+use mathlib.Core.Path.{_≡_, refl, sym, ap, _∙_}
+use mathlib.Core.List.{List, [], _∷_, _++_, append-nil, append-assoc}
 use mathlib.Core.Bool.{Bool, true, false, cond}
 use lib.ListN.{length}
 use native.Mathlib.Omega.{arith}
+use Rattle.model.specs.declared.Command.{Command}
+use Rattle.recording.specs.declared.Reader.{Reader}
 use Rattle.recording.specs.Words.{separator, Word, closed, cut}
-use Rattle.recording.specs.Reading.{Progress, advance, readWord, readWords}
+use Rattle.recording.specs.Stamps.{commandsOf}
+use Rattle.recording.specs.Reading.{Progress, progress, advance, readWord, readWords}
 
 closed-joined : (end : ℕ) (w : List ℕ) (xs ys : List Word) → closed end w (xs ++ ys) ≡ closed end w xs ++ ys
 closed-joined end [] xs ys = refl
@@ -38,3 +42,14 @@ pub readWords-joined : (p : Progress) (xs ys : List Word) → readWords p (xs ++
 unfolding readWords
 readWords-joined p [] ys = refl
 readWords-joined p (w ∷ ws) ys = readWords-joined (advance (p .commands) (readWord (p .reader) w)) ws ys
+
+pub readWords-commands : (r : Reader) (cs : List Command) (ws : List Word) →
+    readWords (progress r cs) ws ≡ progress ((readWords (progress r []) ws) .reader) (cs ++ (readWords (progress r []) ws) .commands)
+unfolding readWords advance
+readWords-commands r cs [] = sym (ap (progress r) (append-nil cs))
+readWords-commands r cs (w ∷ ws) =
+    let a = readWord r w in
+    let given = commandsOf (a .strobe) in
+    let q = readWords (progress (a .reader) []) ws in
+    readWords-commands (a .reader) (cs ++ given) ws ∙ ap (progress (q .reader)) (append-assoc cs given (q .commands)) ∙
+    sym (ap (λ (p : Progress). progress (p .reader) (cs ++ p .commands)) (readWords-commands (a .reader) given ws))

@@ -7,6 +7,7 @@
 --   Final           what follows a fault changes nothing; where a fault is shown
 --   Commanded       cmd holds a number from 0 to 7
 --   Counted         at most 65,535 commands, and one for each strobe
+--   Limits          no more commands than bytes, and a time for each command
 --   Agreement       a reader's variables and the declarations of the grammar
 --   Steps           words that show no fault of the grammar
 --   Derived         a text read without a fault is derived
@@ -21,6 +22,7 @@ pub mod Faults
 pub mod Final
 pub mod Commanded
 pub mod Counted
+pub mod Limits
 pub mod Agreement
 pub mod Steps
 pub mod Derived

@@ -4,10 +4,11 @@
 --   readWord r w     the word w; a reader with a fault stays as it is
 --   finish n r       the end of a text of n bytes: an open stamp ends, then something may be missing
 --   reading t        commands, number and offset; number 0 with the text's length where there is no fault
+--   timesOf t        the time of the stamp at whose end each command of `reading t` is taken, in their order
 use Prim.Native.Nat.{ℕ, _-_, _^_, min}
 use Prim.Native.String.{String}
 use mathlib.Core.Option.{Option, none, some}
-use mathlib.Core.List.{List, [], _∷_, _++_, tail}
+use mathlib.Core.List.{List, [], _∷_, _++_, map, tail}
 use mathlib.Core.Bool.{Bool, true, false, not, _&&_, _||_, cond}
 use lib.ListN.{length, getD}
 use lib.Dec.{ltb, leb, eqb}
@@ -214,3 +215,18 @@ answered n p =
 
 unfoldable pub reading : List ℕ → Reading
 reading t = answered (length t) (finished (length t) (readWords (progress start []) (words t)))
+
+-- ---- the times of the commands
+
+-- The time of the stamp that a word ends, for each command that is taken there.
+abbrev pub timesAt : Reader → Read → List ℕ
+timesAt r a = map (λ (c : Command). r .stamp .time) (commandsOf (a .strobe))
+
+unfoldable pub timesFrom : Reader → List Word → List ℕ
+timesFrom r [] = []
+timesFrom r (w ∷ ws) = timesAt r (readWord r w) ++ timesFrom ((readWord r w) .reader) ws
+
+unfoldable pub timesOf : List ℕ → List ℕ
+timesOf t =
+    let last = (readWords (progress start []) (words t)) .reader in
+    timesFrom start (words t) ++ timesAt last (finish (length t) last)

@@ -7,7 +7,7 @@ use mathlib.Core.Logic.{_↔_, _≢_}
 use mathlib.Core.List.{List, [], _∷_, _++_, map, List·Memᴰ}
 use mathlib.Core.Bool.{true, false}
 use lib.ListN.{length, getD}
-use Rattle.recording.specs.Reading.{finished, isGood, readWord, finish, Progress, progress, readWords, readingWith, reading}
+use Rattle.recording.specs.Reading.{finished, isGood, readWord, finish, Progress, progress, readWords, readingWith, reading, timesOf}
 use Rattle.model.specs.Records.{reset}
 use Rattle.model.specs.Ledger.{opening, ledger, entries}
 use Rattle.model.specs.Statements.{InRange, PriorityStrict}
@@ -97,6 +97,14 @@ AtMost65535 = (t : List ℕ) → length ((reading t) .commands) ≤ 65535
 -- Every strobe that is taken gives a command: cmd has three bits, and each of its eight numbers names one.
 abbrev pub CommandsTaken : Type 0
 CommandsTaken = (t : List ℕ) → length ((reading t) .commands) ≡ (finished (length t) (upTo t)) .reader .taken
+
+-- No more commands than bytes: so many have room in what a host lends.
+abbrev pub NoMoreThanBytes : Type 0
+NoMoreThanBytes = (t : List ℕ) → length ((reading t) .commands) ≤ length t
+
+-- Each command has a time.
+abbrev pub TimesExact : Type 0
+TimesExact = (t : List ℕ) → length (timesOf t) ≡ length ((reading t) .commands)
 
 -- ---- the grammar
 

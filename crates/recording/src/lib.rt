@@ -106,3 +106,12 @@ pub struct Read {
     pub reader: Reader,
     pub strobe: Strobe,
 }
+
+// What a call for hosts answers: the number of the first fault, or 2 or 255, 0 for none; how many commands it wrote or answered; the
+// offset of the fault, and without one the text's length.
+#[repr(C)]
+pub struct Report {
+    pub number: u8,
+    pub count: u16,
+    pub offset: u64,
+}

@@ -27,12 +27,7 @@ use Rattle.effects.proofs.Accepted.{by-answer}
 use Rattle.effects.proofs.Effects.{effect-m}
 use Rattle.effects.proofs.Kept.{cycles-bounded}
 use Rattle.theorems.proofs.Refusals.{refused-unchanged}
-use Rattle.exports.proofs.Calls.{answersFrom}
-
-answers-count : (s : Controller) (cs : List Command) → length (answersTo s cs) ≡ length cs
-unfolding answersBy
-answers-count s [] = refl
-answers-count s (c ∷ cs) = ap suc (answers-count ((execute s c) .state) cs)
+use Rattle.encoding.proofs.Answers.{answersFrom, answers-count}
 
 pub answers-length : (s : Controller) (cs : List Command) → length (answersFrom s cs) ≡ answerSize * length cs
 answers-length s cs =

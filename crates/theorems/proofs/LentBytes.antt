@@ -20,7 +20,8 @@ use Rattle.encoding.proofs.RoundTrip.{bytes-written-back}
 use Rattle.layout.specs.CallStatements.{RefusedMakeKeeps, RefusedExecuteKeeps, RefusedRunKeeps, AllRefusedKeeps, RestKept, RunKeepsRest}
 use Rattle.exports.proofs.Commands.{commands-length}
 use Rattle.exports.proofs.Buffers.{room-enough}
-use Rattle.exports.proofs.Calls.{answersFrom, run-by}
+use Rattle.encoding.proofs.Answers.{answersFrom}
+use Rattle.exports.proofs.Calls.{run-by}
 use Rattle.theorems.proofs.AnswerBytes.{answers-length, written, refused-state, kept-refused}
 
 -- a call that answers a number other than 0 leaves the bytes b

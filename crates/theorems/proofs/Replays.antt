@@ -1,29 +1,22 @@
 -- A replay is the run of the reading's commands from a fresh controller (`ReplayExact`), so that demand 3 holds of it (`ReplayStrict`).
 -- Assumes nothing.
-use mathlib.Core.Path.{_≡_, refl, sym, ap, subst, _∙_}
-use mathlib.Core.List.{List, [], _∷_}
-use Prim.Native.Nat.{ℕ, suc}
+use mathlib.Core.Path.{_≡_, sym, ap, subst, _∙_}
+use mathlib.Core.List.{List}
+use Prim.Native.Nat.{ℕ}
 use lib.ListN.{length}
 use borrow.Author.Tests.{not-true}
-use Rattle.model.specs.Behaviours.{answersBy}
-use Rattle.model.specs.declared.Controller.{Controller}
 use Rattle.model.specs.declared.Command.{Command}
 use Rattle.model.specs.Records.{reset}
 use Rattle.model.specs.WellFormed.{sizesInRange}
-use Rattle.model.specs.Commands.{execute}
-use Rattle.model.specs.Ledger.{opening, ledger, entries, answersTo}
+use Rattle.model.specs.Ledger.{opening, ledger, entries}
 use Rattle.model.specs.Statements.{InRange, PriorityStrict}
 use Rattle.lists.proofs.Exact.{refuted-exact}
 use Rattle.well_formed.proofs.Clauses.{sizes-exact}
+use Rattle.encoding.proofs.Answers.{answers-count}
 use Rattle.theorems.proofs.DemandThree.{reset-strict}
 use Rattle.recording.specs.Reading.{reading}
 use Rattle.recording.specs.Replay.{Replay, replayFrom, replayed}
 use Rattle.recording.specs.Statements.{ReplayExact, ReplayStrict}
-
-answers-each : (s : Controller) (cs : List Command) → length (answersTo s cs) ≡ length cs
-unfolding answersBy
-answers-each s [] = refl
-answers-each s (c ∷ cs) = ap suc (answers-each ((execute s c) .state) cs)
 
 replays-inside : (n m : ℕ) (t : List ℕ) → InRange n m → replayed n m t ≡ replayFrom (reset n m) (reading t)
 unfolding replayed
@@ -37,7 +30,7 @@ replay-exact n m t =
       outside = λ h. rw (not-true (sizesInRange n m) (refuted-exact (sizes-exact n m) .1 h));
       answered =
           λ h.
-          ap (λ (r : Replay). length (r .answers)) (replays-inside n m t h) ∙ answers-each (reset n m) ((reading t) .commands);
+          ap (λ (r : Replay). length (r .answers)) (replays-inside n m t h) ∙ answers-count (reset n m) ((reading t) .commands);
     }
 
 pub replay-strict : ReplayStrict

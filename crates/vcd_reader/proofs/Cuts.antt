@@ -2,7 +2,6 @@
 --   cut-separator    a separator is passed
 --   cut-word         the run of bytes from an offset on is a word, and the others follow it
 --   run-small        the bytes of a run are bytes
---   readerOf-words   the reader after the words of a text
 use Prim.Native.Nat.{ℕ, suc, _+_, _-_, _<_}
 use mathlib.Core.Path.{_≡_, refl, sym, ap, ap₂, _∙_}
 use mathlib.Core.List.{List, [], _∷_, _++_, append-nil, append-assoc}
@@ -13,10 +12,9 @@ use native.Mathlib.Numerals.{add-one}
 use native.Mathlib.Omega.{arith}
 use borrow.Author.Tests.{lt-ltb}
 use Rattle.lists.proofs.Bools.{and-in, Flag, on, off, flag}
-use Rattle.recording.specs.Words.{separator, Word, wordAt, closed, cut}
-use Rattle.recording.specs.Reading.{readWord, Progress, advance, readWords}
-use Rattle.vcd_reader.specs.Partial.{run, readerOf}
-use Rattle.vcd_reader.proofs.Spells.{small, head-small, tail-small}
+use Rattle.recording.specs.Words.{separator, wordAt, closed, cut}
+use Rattle.vcd_words.specs.Partial.{run}
+use Rattle.vcd_words.proofs.Spells.{small, head-small, tail-small}
 
 -- ---- cutting
 
@@ -82,10 +80,3 @@ small-run (b ∷ bs) h = go (flag (separator b)) (small-run bs (tail-small b bs 
 
 pub run-small : (t : List ℕ) (i : ℕ) → ((j : ℕ) → getD t j 0 < 256) → small (run (drop i t)) ≡ true
 run-small t i h = small-run (drop i t) (small-of (drop i t) (λ j. rw getD-drop (h (i + j))))
-
--- ---- the reader after words
-
-pub readerOf-words : (p : Progress) (ws : List Word) → (readWords p ws) .reader ≡ readerOf (p .reader) ws
-unfolding readWords advance
-readerOf-words p [] = refl
-readerOf-words p (w ∷ ws) = readerOf-words (advance (p .commands) (readWord (p .reader) w)) ws

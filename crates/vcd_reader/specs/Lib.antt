@@ -1,3 +1,7 @@
 -- Helpers of the contracts. Nothing here needs to be believed: what a text says is in the crate recording.
---   Partial    what is kept of a word under way
-pub mod Partial
+--   Advances    what a part of a reading answers
+--   Runs        what a word is that begins at an offset
+--   Changes     changes and times that give no command, and the word that gives one
+pub mod Advances
+pub mod Runs
+pub mod Changes

@@ -1,79 +1,57 @@
-// Reads a recording from bytes, word by word. What the words of a text do is said in the crate recording.
-mod declarations;
-mod marks;
-mod readers;
-pub mod scanning;
-mod stamps;
-pub mod texts;
-pub mod words;
+// Reads a recording from bytes, from an offset up to the next command. What the words of a text do is said in the crate recording.
+pub mod advancing;
+mod changes;
+mod runs;
 
-use recording::Signal;
+use recording::Reader;
+use recording::Strobe;
+use recording::Variables;
+use recording::Vector;
 
-// The number that a word spells after its first byte, as far as it is read: decimal after # or a digit, binary after b or B.
-// whole: every byte is a digit. known: no bit is x or z. over: the number is above 2^64 - 1, and value is held there; a binary one is
-// held at 65,535.
-pub struct Number {
+// The bits 0 and 1 from an offset on: whether a word ends with them, where they end, and their number, held at 65,535.
+pub struct Bits {
     pub whole: bool,
-    pub known: bool,
-    pub over: bool,
-    pub value: u64,
-}
-
-// What is kept of a word under way, of one size whatever the word's length: the length, held at 256; the first byte; the last sixteen
-// bytes, as two numbers of eight; and the number that the word spells.
-pub struct Partial {
-    pub length: u16,
-    pub first: u8,
-    pub high: u64,
-    pub low: u64,
-    pub number: Number,
-}
-
-// What is kept of the last sixteen bytes, and where the bytes end.
-pub struct Spelled {
     pub end: usize,
-    pub high: u64,
-    pub low: u64,
+    pub number: u64,
 }
 
-// Where a word ends, or the slice does, and what is kept of the word.
-pub struct Scanned {
+// A code at an offset, 0 if there is none, and where it ends.
+pub struct Coded {
     pub end: usize,
-    pub partial: Partial,
+    pub code: u32,
 }
 
-// The words that mean something by their spelling.
-pub enum Keyword {
-    Date,
-    Version,
-    Comment,
-    Timescale,
-    Scope,
-    Upscope,
-    Var,
-    EndDefinitions,
-    End,
-    DumpVars,
-    DumpAll,
-    DumpOn,
-    DumpOff,
-    Wire,
-    Stb,
-    Cmd,
-    Core,
-    Arg,
-    Prio,
+// The decimal digits from an offset on: whether they are a time and a word ends with them, where they end, and the time.
+pub struct Timed {
+    pub whole: bool,
+    pub end: usize,
+    pub time: u64,
 }
 
-// How a keyword of at most sixteen bytes is kept.
-pub struct Spelling {
-    pub length: u16,
-    pub high: u64,
-    pub low: u64,
+// The bits of a vector with its code, 0 if there is none, and where the next word begins.
+pub struct Given {
+    pub end: usize,
+    pub code: u32,
+    pub vector: Vector,
 }
 
-// The variable of a name or of a code, if there is one.
-pub enum Named {
-    Of(Signal),
-    Nothing,
+// The variables after a change, if it is one.
+pub struct Placed {
+    pub found: bool,
+    pub variables: Variables,
+}
+
+// Where words are read that give no command, and the reader after them.
+pub struct Passed {
+    pub end: usize,
+    pub reader: Reader,
+}
+
+// Where the reading of a text has come: the reader, the offset at which it goes on, and the command that its last word gave, with the
+// time of the stamp that the word ended.
+pub struct Advanced {
+    pub reader: Reader,
+    pub end: usize,
+    pub strobe: Strobe,
+    pub time: u64,
 }

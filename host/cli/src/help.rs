@@ -9,6 +9,7 @@ pub const HELP: &str = "\
 psic: a proved model of the PSIC interrupt controller
 
 usage: psic run --sources N --cores M [FILE]
+       psic replay FILE --sources N --cores M
        psic refusals
        psic --help | --version
 
@@ -33,11 +34,20 @@ psic run
         settling; each core's current priority, core 0 first; and who owns each pending request: the source while it
         waits, the box of a core, or the software that claimed it.
 
-psic refusals
-    prints the numbers for no in words.
+psic replay
+    makes a fresh controller as 'psic run' does, and takes commands from a recording of the bus monitor, Value Change
+    Dump text in FILE, or in standard input if it is '-'. A fault of the recording ends it.
 
-Exit status: 0; 1 if a file or a line can't be read, a size is out of range, or the output can't be written; 2 for wrong
-usage. A refused command is no failure.
+    #12 trigger 4: accepted, 1 cycle, [4,0]  4: box 0
+        The time of the stamp at whose end the command was taken, then the line that 'psic run' prints. After the last
+        one: how many commands there were, how many were refused and by which number, the cycles in all and at most.
+        A fault goes to standard error: its line, column and word, and what was expected there.
+
+psic refusals
+    prints the numbers for no in words, of commands and of recordings.
+
+Exit status: 0; 1 if a file or a line can't be read, a size is out of range, a recording has a fault, or the output
+can't be written; 2 for wrong usage. A refused command is no failure.
 
 Example: printf 'unmask 1\\ntrigger 1\\nclaim on core 0\\n' | psic run --sources 2 --cores 4
 ";

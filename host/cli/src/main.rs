@@ -2,7 +2,10 @@
 
 mod failure;
 mod help;
+mod line;
+mod options;
 mod refusals;
+mod replay;
 mod run;
 
 use std::env;
@@ -31,6 +34,7 @@ fn dispatched(words: &[OsString]) -> Result<(), Failure> {
     };
     match first.to_str() {
         Some("run") => run::command(rest),
+        Some("replay") => replay::command(rest),
         Some("refusals") => refusals::command(rest),
         Some("help" | "--help" | "-h") => help::print(help::HELP),
         Some("--version" | "-V") => help::print(&help::version()),

@@ -1,72 +1,20 @@
 //! `psic run`: commands as lines of text, put to a fresh controller.
 
 use std::ffi::OsString;
-use std::fs::File;
-use std::io::{self, BufRead, BufReader, BufWriter, IsTerminal, Write};
-use std::path::PathBuf;
+use std::io::{self, BufRead, BufWriter, IsTerminal, Write};
 
 use psic::{Command, Controller};
 
 use crate::failure::Failure;
-
-/// What the command line asks for.
-struct Options {
-    sources: u16,
-    cores: u16,
-    /// None for standard input.
-    file: Option<PathBuf>,
-}
+use crate::line;
+use crate::options::{Input, Options};
 
 /// Runs the commands of a file or of standard input.
 pub fn command(words: &[OsString]) -> Result<(), Failure> {
-    let options = options(words)?;
-    let (n, m) = (options.sources, options.cores);
-    let controller = Controller::new(n, m)
-        .map_err(|refusal| Failure::input(format!("{n} sources and {m} cores: {refusal}")))?;
-    match options.file {
-        None => run(controller, &mut io::stdin().lock(), "standard input"),
-        Some(path) => {
-            let name = path.display().to_string();
-            let file = File::open(&path)
-                .map_err(|error| Failure::input(format!("{name} can't be opened: {error}")))?;
-            run(controller, &mut BufReader::new(file), &name)
-        }
-    }
-}
-
-fn options(words: &[OsString]) -> Result<Options, Failure> {
-    let (mut sources, mut cores, mut file) = (None, None, None);
-    let mut words = words.iter();
-    while let Some(word) = words.next() {
-        let text = word.to_string_lossy();
-        match text.as_ref() {
-            "--sources" => set(&mut sources, &text, size(&text, words.next())?)?,
-            "--cores" => set(&mut cores, &text, size(&text, words.next())?)?,
-            option if option.starts_with('-') && option != "-" => {
-                return Err(Failure::usage(format!("'run' takes no '{option}'")));
-            }
-            _ => set(&mut file, "FILE", PathBuf::from(word))?,
-        }
-    }
-    let missing = |option: &str| Failure::usage(format!("'run' needs {option}"));
-    Ok(Options {
-        sources: sources.ok_or_else(|| missing("--sources N"))?,
-        cores: cores.ok_or_else(|| missing("--cores M"))?,
-        file: file.filter(|path| path.as_os_str() != "-"),
-    })
-}
-
-fn set<T>(place: &mut Option<T>, name: &str, value: T) -> Result<(), Failure> {
-    match place.replace(value) {
-        None => Ok(()),
-        Some(_) => Err(Failure::usage(format!("{name} is given twice"))),
-    }
-}
-
-fn size(option: &str, word: Option<&OsString>) -> Result<u16, Failure> {
-    let text = word.and_then(|word| word.to_str());
-    let number = text.and_then(|text| text.parse().ok());
-    number.ok_or_else(|| Failure::usage(format!("{option} needs a number from 0 to 65535")))
+    let mut options = Options::of("run", words)?;
+    let input = options.input.take().unwrap_or(Input::Standard);
+    let controller = options.controller()?;
+    run(controller, &mut input.open()?, &input.name())
 }
 
 /// Takes a command a line and prints its answer. What was answered before a bad line is written out.
@@ -86,7 +34,10 @@ fn run(mut controller: Controller, input: &mut dyn BufRead, name: &str) -> Resul
                 _ => command_of(&line).map(Some).map_err(place),
             });
         match taken {
-            Ok(Some(Some(command))) => answer(&mut controller, command, &mut out)?,
+            Ok(Some(Some(command))) => {
+                // A refusal is an answer, and the run goes on.
+                let _ = line::answer(&mut controller, command, command, &mut out)?;
+            }
             Ok(Some(None)) => {}
             Ok(None) => break,
             Err(failure) => {
@@ -109,12 +60,4 @@ fn command_of(line: &[u8]) -> Result<Option<Command>, String> {
         return Ok(None);
     }
     text.parse().map(Some).map_err(|error| format!("{error}"))
-}
-
-/// Puts a command to the controller, and prints it, what it answers and the state after it.
-fn answer(controller: &mut Controller, command: Command, out: &mut impl Write) -> io::Result<()> {
-    match controller.execute(command) {
-        Ok(answer) => writeln!(out, "{command}: {answer}, {controller}"),
-        Err(refusal) => writeln!(out, "{command}: {refusal}, 0 cycles, {controller}"),
-    }
 }

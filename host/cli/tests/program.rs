@@ -5,6 +5,7 @@ use std::io::Write;
 use std::process::{Command, Output, Stdio};
 
 const EXAMPLE: &str = "../examples/two_beams.txt";
+const RECORDING: &str = "../examples/two_beams.vcd";
 
 fn psic(words: &[&str]) -> Command {
     let mut command = Command::new(env!("CARGO_BIN_EXE_psic"));
@@ -105,7 +106,7 @@ fn bad_input_has_status_1() {
 
 #[test]
 fn wrong_usage_has_status_2_and_points_to_the_help() {
-    let wrong: [&[&str]; 11] = [
+    let wrong: [&[&str]; 16] = [
         &[],
         &["walk"],
         &["run"],
@@ -117,6 +118,19 @@ fn wrong_usage_has_status_2_and_points_to_the_help() {
         &["run", "--sources", "4", "--cores", "4", "--fast"],
         &["run", "--sources", "4", "--cores", "4", "a", "b"],
         &["refusals", "7"],
+        &["replay"],
+        &["replay", "--sources", "4", "--cores", "4"],
+        &["replay", RECORDING, "--cores", "4"],
+        &[
+            "replay",
+            RECORDING,
+            "--sources",
+            "4",
+            "--cores",
+            "4",
+            "--all",
+        ],
+        &["replay", RECORDING, "-", "--sources", "4", "--cores", "4"],
     ];
     for words in wrong {
         let (status, out, err) = answered(words, b"");
@@ -133,6 +147,7 @@ fn wrong_usage_has_status_2_and_points_to_the_help() {
 fn a_write_that_fails_is_told() {
     for words in [
         &[&SIZES[..], &[EXAMPLE]].concat()[..],
+        &["replay", RECORDING, "--sources", "4", "--cores", "4"],
         &["refusals"],
         &["--help"],
         &["--version"],
@@ -152,13 +167,14 @@ fn refusals_are_the_librarys() {
     let (status, out, _) = answered(&["refusals"], b"");
     assert_eq!(status, 0);
     assert_eq!(out.lines().next(), Some("  0  accepted"));
-    for (line, refusal) in out.lines().skip(1).zip(psic::Refusal::ALL) {
-        assert_eq!(
-            line,
-            format!("{:>3}  {}", refusal.number(), refusal.in_words())
-        );
+    let refusals = psic::Refusal::ALL.map(|refusal| (refusal.number(), refusal.in_words()));
+    let faults = psic::FaultKind::ALL.map(|kind| (kind.number(), kind.in_words()));
+    for (number, words) in refusals.into_iter().chain(faults) {
+        let line = format!("{number:>3}  {words}");
+        assert!(out.lines().any(|printed| printed == line), "{line}");
     }
-    assert_eq!(out.lines().count(), 1 + psic::Refusal::ALL.len());
+    assert_eq!(out.lines().count(), 1 + refusals.len() + faults.len());
+    assert!(out.lines().is_sorted());
 }
 
 #[test]
@@ -169,7 +185,202 @@ fn the_help_names_every_command() {
         for form in psic::Command::FORMS {
             assert!(out.contains(form), "{form}");
         }
+        for command in ["psic run", "psic replay", "psic refusals"] {
+            assert!(out.contains(&format!("\n{command}\n")), "{command}");
+        }
     }
+}
+
+/// The sample recording is the worked example with times, and a summary.
+#[test]
+fn the_sample_recording_is_as_stored() {
+    let stored = include_str!("../../examples/two_beams.vcd.stdout").to_string();
+    for words in [
+        ["replay", RECORDING, "--sources", "4", "--cores", "4"],
+        ["replay", "--cores", "4", RECORDING, "--sources", "4"],
+    ] {
+        assert_eq!(answered(&words, b""), (0, stored.clone(), String::new()));
+    }
+    let input = include_bytes!("../../examples/two_beams.vcd");
+    assert_eq!(replayed(input), (0, stored.clone(), String::new()));
+    let by_run = include_str!("../../examples/two_beams.stdout");
+    let without_times = stored
+        .lines()
+        .filter_map(|line| line.strip_prefix('#')?.split_once(' '));
+    let without_times: Vec<&str> = without_times.map(|(_, line)| line).collect();
+    assert_eq!(without_times, by_run.lines().collect::<Vec<&str>>());
+}
+
+/// The lines say what the library's own replay answers, and end with its state.
+#[test]
+fn the_lines_are_those_of_the_librarys_replay() {
+    let text = include_bytes!("../../examples/two_beams.vcd");
+    let replay = psic::replay(4, 4, text).expect("sizes in range");
+    let (_, out, _) = replayed(text);
+    let lines: Vec<&str> = out.lines().filter(|line| line.starts_with('#')).collect();
+    let reading = psic::read(text);
+    assert_eq!(lines.len(), replay.answers.len());
+    for ((line, stamped), answer) in lines.iter().zip(reading.commands).zip(replay.answers) {
+        let answer = answer.expect("every command of the sample is accepted");
+        assert!(
+            line.starts_with(&format!("{stamped}: {answer}, [")),
+            "{line}"
+        );
+    }
+    let state = replay.controller.to_string();
+    assert!(lines.last().is_some_and(|line| line.ends_with(&state)));
+}
+
+/// A replay of standard input on four sources and four cores.
+fn replayed(input: &[u8]) -> (i32, String, String) {
+    answered(&["replay", "--sources", "4", "--cores", "4", "-"], input)
+}
+
+/// Definitions on one line, with document 01's codes.
+const DEFINED: &str = "$var wire 1 ! stb $end $var wire 3 \" cmd $end $var wire 5 # core $end $var wire 8 $ arg $end \
+                       $var wire 9 % prio $end $enddefinitions $end\n";
+
+#[test]
+fn refused_commands_are_counted_by_number_and_the_replay_goes_on() {
+    // Claims on core 0, source 9, source 4 twice; then the cycles of a delivery.
+    let stamps = "#1 b101 \" b0 # 1! #2 0! #3 b100 \" b1001 $ 1! #4 0! #5 b100 $ 1! #6 0! #7 1! #8 0! #9 b10 \" 1!";
+    let expected = "\
+#1 claim on core 0: refused by 7 (the box is empty), 0 cycles, [0,0,0,0]
+#3 trigger 9: refused by 4 (there is no such source), 0 cycles, [0,0,0,0]
+#5 trigger 4: accepted, 0 cycles, [0,0,0,0]  4: source
+#7 trigger 4: refused by 6 (the source is pending already), 0 cycles, [0,0,0,0]  4: source
+#9 unmask 4: accepted, 1 cycle, [1,0,0,0]  4: box 0
+commands: 5, accepted: 2, refused: 3
+    1 refused by 4 (there is no such source)
+    1 refused by 6 (the source is pending already)
+    1 refused by 7 (the box is empty)
+cycles: 1, at most 1 a command
+";
+    let input = [DEFINED, stamps].concat();
+    assert_eq!(
+        replayed(input.as_bytes()),
+        (0, expected.to_string(), String::new())
+    );
+}
+
+const NOTHING: &str = "commands: 0, accepted: 0, refused: 0\ncycles: 0, at most 0 a command\n";
+
+#[test]
+fn a_recording_without_a_time_has_no_command() {
+    for stamps in ["", "1!", "b100 \" b1 $ 1! 0! 1!", "$comment #0 $end"] {
+        let input = [DEFINED, stamps].concat();
+        assert_eq!(
+            replayed(input.as_bytes()),
+            (0, NOTHING.to_string(), String::new()),
+            "{stamps}"
+        );
+    }
+}
+
+/// The commands before a fault are printed, also one taken at its word, and the fault is told on standard error with status 1.
+#[test]
+fn a_fault_ends_the_replay_and_is_told() {
+    let first = "#1 b10 \" b100 $ 1! ";
+    let printed = "#1 unmask 4: accepted, 0 cycles, [0,0,0,0]
+commands: 1, accepted: 1, refused: 0
+cycles: 0, at most 0 a command
+";
+    let length = DEFINED.len();
+    for (rest, column, expected, number) in [
+        ("#1", 20, "at '#1': expected a time above #1", 14),
+        (
+            "#2 x! #3",
+            26,
+            "at '#3': expected no x or z in stb at the end of the stamp #2",
+            13,
+        ),
+        (
+            "#2\tb",
+            23,
+            "at 'b': expected one or more of 0, 1, x and z after the b",
+            11,
+        ),
+        (
+            "$comment",
+            28,
+            "at the end of the text: expected $end to close $comment",
+            11,
+        ),
+    ] {
+        let input = [DEFINED, first, rest].concat();
+        let offset = length + column - 1;
+        let place = format!("standard input, line 2, column {column}");
+        let told = format!("psic: {place}, {expected} (refused by {number} at byte {offset})\n");
+        assert_eq!(
+            replayed(input.as_bytes()),
+            (1, printed.to_string(), told),
+            "{rest}"
+        );
+    }
+}
+
+#[test]
+fn a_missing_variable_is_told() {
+    let lacks = DEFINED.replace("$var wire 3 \" cmd $end ", "");
+    let (status, out, err) = replayed(lacks.as_bytes());
+    assert_eq!((status, out.as_str()), (1, NOTHING));
+    let told =
+        "at '$enddefinitions': expected declarations of all five variables before it: cmd missing";
+    assert!(err.contains(told), "{err}");
+}
+
+#[test]
+fn an_empty_recording_lacks_its_definitions() {
+    let (status, out, err) = replayed(b"");
+    assert_eq!((status, out.as_str()), (1, NOTHING));
+    let expected =
+        "$var, $enddefinitions, $date, $version, $comment, $timescale, $scope or $upscope";
+    let place = "standard input, line 1, column 1, at the end of the text";
+    let told = format!("psic: {place}: expected {expected} (refused by 11 at byte 0)\n");
+    assert_eq!(err, told);
+}
+
+/// As 'psic run' does; the recording isn't looked at before the sizes.
+#[test]
+fn sizes_files_and_folders_that_can_not_be_taken() {
+    for (words, expected) in [
+        (
+            ["replay", "-", "--sources", "129", "--cores", "4"],
+            "129 sources and 4 cores: refused by 2 ",
+        ),
+        (
+            ["replay", "no such file", "--sources", "0", "--cores", "4"],
+            "0 sources and 4 cores: refused by 2 ",
+        ),
+        (
+            ["replay", "no such file", "--sources", "4", "--cores", "4"],
+            "no such file can't be opened: ",
+        ),
+        (
+            ["replay", "tests", "--sources", "4", "--cores", "4"],
+            "tests can't be read: ",
+        ),
+    ] {
+        let (status, out, err) = answered(&words, b"no recording");
+        assert_eq!((status, out.as_str()), (1, ""), "{words:?}");
+        assert!(err.starts_with(&format!("psic: {expected}")), "{err}");
+    }
+}
+
+/// A long recording with no terminal to tell progress to.
+#[test]
+fn a_long_recording_is_replayed_in_silence() {
+    let mut input = [DEFINED, "b10 \" b1 $ #0 1!"].concat();
+    for time in 1..65_535 {
+        input += &format!("\n#{} 0! #{} 1!", 2 * time, 2 * time + 1);
+    }
+    assert!(input.len() > 1_000_000);
+    let (status, out, err) = replayed(input.as_bytes());
+    assert_eq!((status, err.as_str()), (0, ""));
+    assert_eq!(out.lines().count(), 65_535 + 2);
+    assert!(out.ends_with(
+        "\ncommands: 65535, accepted: 65535, refused: 0\ncycles: 0, at most 0 a command\n"
+    ));
 }
 
 /// The program, the wrapper, the library, the C header and the change log are of one version.

@@ -1,5 +1,5 @@
 /* The header against the library, in C and in C++: T2 to T8 of document 01's table by the typed commands, every accessor, a list, the
- * calls on lent records, refusals of each kind that a host can meet, and the version. */
+ * calls on lent records, document 01's recording read and replayed, refusals of each kind that a host can meet, and the version. */
 #include <errno.h>
 #include <stdio.h>
 #include <string.h>
@@ -123,6 +123,84 @@ static void lent_records(void) {
     expect(psic_claim_in_place(&bad).number == PSIC_UNSOUND && bad.message.filled, "a box that isn't above its core: 1, left as lent");
 }
 
+/* Document 01's own recording: trigger 4 alone. */
+static const char trigger_4[] = "$timescale 1 ns $end\n$scope module psic $end\n$var wire 1 ! stb $end\n$var wire 3 \" cmd $end\n"
+                                "$var wire 5 # core $end\n$var wire 8 $ arg $end\n$var wire 9 % prio $end\n$upscope $end\n"
+                                "$enddefinitions $end\n#0\nb100 \"\nb0 #\nb100 $\nb0 %\n1!\n#1\n0!\n";
+
+enum { LENGTH = sizeof trigger_4 - 1 };
+
+static bool reports(psic_report report, unsigned number, uint16_t count, uint64_t offset) {
+    return report.number == number && report.count == count && report.offset == offset;
+}
+
+/* Whether every byte is 0x99, as before a call. */
+static bool untouched(const void *bytes, size_t length) {
+    for (size_t i = 0; i < length; i++) {
+        if (((const uint8_t *)bytes)[i] != 0x99) {
+            return false;
+        }
+    }
+    return true;
+}
+
+static uint8_t text[LENGTH + 1];
+static uint8_t commands[PSIC_COMMAND_SIZE * (LENGTH + 1)];
+static uint64_t times[LENGTH + 1];
+
+static psic_report read_text(void) {
+    memset(commands, 0x99, sizeof commands);
+    memset(times, 0x99, sizeof times);
+    return psic_read(text, LENGTH, commands, sizeof commands, times, LENGTH + 1);
+}
+
+static void recordings(void) {
+    memcpy(text, trigger_4, sizeof text);
+    expect(psic_room(LENGTH) == LENGTH && psic_room(70000) == PSIC_MAX_COMMANDS, "room");
+    expect(reports(read_text(), PSIC_OK, 1, LENGTH), "document 01's recording is read");
+    psic_listed listed = psic_command_at(commands, 0);
+    expect(listed.command == PSIC_TRIGGER && listed.at == 4 && listed.priority == 0 && times[0] == 0, "trigger 4 at time 0");
+    expect(untouched(commands + PSIC_COMMAND_SIZE, sizeof commands - PSIC_COMMAND_SIZE), "what lies behind the command is left alone");
+    expect(untouched(times + 1, sizeof times - sizeof times[0]), "what lies behind its time is left alone");
+    text[LENGTH - 5] = '0'; /* #1 becomes #0 */
+    expect(reports(read_text(), PSIC_TIME_NOT_RISING, 1, LENGTH - 6), "14 at the time, and the command before it stands");
+    text[LENGTH - 5] = 'x';
+    expect(reports(read_text(), PSIC_BAD_TEXT, 1, LENGTH - 6), "11 at the time, and the command before it stands");
+    text[LENGTH - 9] = 'x'; /* 1! becomes x! */
+    expect(reports(read_text(), PSIC_UNKNOWN_VALUE, 0, LENGTH - 6) && untouched(commands, sizeof commands), "13 comes before 11");
+    text[55] = '2'; /* the width of stb */
+    expect(reports(read_text(), PSIC_BAD_VARIABLE, 0, 59), "12 at stb");
+    expect(strcmp(psic_in_words(PSIC_TOO_MANY_COMMANDS), "there is a command after the 65,535th") == 0, "19 in words");
+}
+
+static void no_room(void) {
+    memset(commands, 0x99, sizeof commands);
+    memset(times, 0x99, sizeof times);
+    expect(reports(psic_read(text, LENGTH, commands, PSIC_COMMAND_SIZE * LENGTH - 1, times, LENGTH), PSIC_UNREADABLE, 0, 0), "255");
+    expect(reports(psic_read(text, LENGTH, commands, sizeof commands, times, LENGTH - 1), PSIC_UNREADABLE, 0, 0), "255 for times");
+    expect(untouched(commands, sizeof commands) && untouched(times, sizeof times), "without room nothing is written");
+    expect(reports(psic_read(text, 0, commands, 0, times, 0), PSIC_BAD_TEXT, 0, 0), "an empty text needs no room and lacks all");
+}
+
+static void replays(void) {
+    psic_state state, expected;
+    uint8_t got[PSIC_ANSWER_SIZE * (LENGTH + 1)];
+    const uint8_t *recording = (const uint8_t *)trigger_4;
+    const size_t short_room = PSIC_ANSWER_SIZE * LENGTH - 1;
+    psic_init(&expected, 32, 2);
+    psic_trigger(&expected, psic_source_id_of(4));
+    memset(&state, 0x99, sizeof state);
+    memset(got, 0x99, sizeof got);
+    expect(reports(psic_replay(33, 33, recording, LENGTH, state.bytes, sizeof state, got, sizeof got), PSIC_BAD_SIZE, 0, 0), "2 at 0");
+    expect(reports(psic_replay(33, 33, recording, LENGTH, state.bytes, 1155, got, sizeof got), PSIC_UNREADABLE, 0, 0), "255 before 2");
+    expect(reports(psic_replay(32, 2, recording, LENGTH, state.bytes, sizeof state, got, short_room), PSIC_UNREADABLE, 0, 0), "no room");
+    expect(untouched(&state, sizeof state) && untouched(got, sizeof got), "nothing is written");
+    expect(reports(psic_replay(32, 2, recording, LENGTH, state.bytes, sizeof state, got, sizeof got), PSIC_OK, 1, LENGTH), "a replay");
+    expect(answers(psic_answer_at(got, 0), PSIC_OK, 0, 0), "4 is masked: accepted, no cycle");
+    expect(untouched(got + PSIC_ANSWER_SIZE, sizeof got - PSIC_ANSWER_SIZE), "what lies behind the answers is left alone");
+    expect(memcmp(&state, &expected, sizeof state) == 0, "the state is that of trigger 4");
+}
+
 int main(void) {
     errno = 77;
     table();
@@ -130,6 +208,9 @@ int main(void) {
     accessors();
     lists();
     lent_records();
+    recordings();
+    no_room();
+    replays();
     expect(errno == 77, "errno is left alone");
     expect(psic_version() == PSIC_VERSION, "the header is the library's");
     printf("%d passed, %d failed\n", passed, failed);

@@ -46,14 +46,46 @@ static void *lent_records(void *unused) {
     return unused;
 }
 
+/* A text of every form: skipped words, blocks, vectors of x and z, long words, commands of each kind, and a fault at its end. */
+static size_t recording(char *text, size_t room) {
+    size_t length = (size_t)snprintf(text, room, "%s%s%s", "$comment a b $end $var wire 1 ! stb $end $var wire 3 \" cmd $end ",
+                                     "$var wire 5 # core $end $var wire 8 $ arg $end $var wire 9 % prio $end ",
+                                     "$enddefinitions $end $dumpvars x! bx \" $end ");
+    for (unsigned i = 0; i < 3 * PSIC_MAX_SOURCES; i++) {
+        const char *form = "#%u b%u%u%u \" b101 # b1%u%u $ b%u1 %% 1! $comment - $end #%050u 0! ";
+        length += (size_t)snprintf(text + length, room - length, form, 2 * i, i / 4 % 2, i / 2 % 2, i % 2, i / 16 % 2, i / 8 % 2,
+                                   i / 32 % 2, 2 * i + 1);
+    }
+    length += (size_t)snprintf(text + length, room - length, "b%0900u $", 1u);
+    return length;
+}
+
+static char text[65536];
+static size_t length;
+
+static void *read_recording(void *unused) {
+    static uint8_t commands[PSIC_COMMAND_SIZE * sizeof text];
+    static uint64_t times[sizeof text];
+    psic_report report = psic_read((const uint8_t *)text, length, commands, sizeof commands, times, sizeof text);
+    return report.count == 3 * PSIC_MAX_SOURCES && report.number == PSIC_BAD_TEXT ? unused : text;
+}
+
+static void *replay_recording(void *unused) {
+    static uint8_t answers[PSIC_ANSWER_SIZE * sizeof text];
+    psic_report report = psic_replay(PSIC_MAX_SOURCES, PSIC_MAX_CORES, (const uint8_t *)text, length, state.bytes, sizeof state.bytes,
+                                     answers, sizeof answers);
+    return report.count == 3 * PSIC_MAX_SOURCES && report.number == PSIC_BAD_TEXT ? unused : text;
+}
+
 /* The bytes of a fresh stack that a thread doing this has written to. */
 static size_t taken_by(void *(*doing)(void *)) {
     unsigned char *stack = (unsigned char *)aligned_alloc(4096, STACK);
     pthread_attr_t attributes;
     pthread_t thread;
+    void *failed = NULL;
     memset(stack, PAINT, STACK);
     if (pthread_attr_init(&attributes) != 0 || pthread_attr_setstack(&attributes, stack, STACK) != 0
-        || pthread_create(&thread, &attributes, doing, NULL) != 0 || pthread_join(thread, NULL) != 0) {
+        || pthread_create(&thread, &attributes, doing, NULL) != 0 || pthread_join(thread, &failed) != 0 || failed != NULL) {
         return STACK;
     }
     size_t left = 0;
@@ -65,15 +97,17 @@ static size_t taken_by(void *(*doing)(void *)) {
 }
 
 int main(void) {
-    void *(*const calls[])(void *) = {make_and_run, each_command, lent_records};
-    const char *const names[] = {"psic_make and psic_run", "psic_execute", "the calls on lent records"};
+    void *(*const calls[])(void *) = {make_and_run, each_command, lent_records, read_recording, replay_recording};
+    const char *const names[] = {"psic_make and psic_run", "psic_execute", "the calls on lent records", "psic_read", "psic_replay"};
+    const int count = (int)(sizeof calls / sizeof calls[0]);
     int failed = 0;
     size_t base = taken_by(nothing);
-    for (size_t i = 0; i < 3; i++) {
+    length = recording(text, sizeof text);
+    for (int i = 0; i < count; i++) {
         size_t taken = taken_by(calls[i]) - base;
-        printf("stack: %s take %zu bytes\n", names[i], taken);
+        printf("stack: %s: %zu bytes\n", names[i], taken);
         failed += taken >= LIMIT;
     }
-    printf("%d passed, %d failed\n", 3 - failed, failed);
+    printf("%d passed, %d failed\n", count - failed, failed);
     return failed != 0;
 }

@@ -10,11 +10,13 @@
  *   psic_answer answer = psic_trigger(&state, psic_source_id_of(4));
  *   if (answer.number != PSIC_OK) puts(psic_in_words(answer.number));
  *   uint16_t shown = psic_current_priority(&state, psic_core_id_of(0));
+ *   psic_report report = psic_replay(32, 2, text, length, state.bytes, sizeof state.bytes, answers, PSIC_ANSWER_SIZE * psic_room(length));
  *
  * What holds of every call:
  *   - It ends and answers, whatever the bytes and numbers that it is given.
  *   - A number other than PSIC_OK leaves every buffer and record as it was, byte for byte, with id 0 and 0 cycles.
  *     That is also so of psic_init and psic_make: the state then has no content of theirs, so look at the number.
+ *     The numbers 11 to 19 of a recording are no such refusals: what was taken before the fault stands, and is written.
  *   - It allocates nothing, waits for nothing, keeps nothing between calls and doesn't touch errno. It may be called from a signal
  *     handler or an interrupt routine, and takes less than 16 KB of stack.
  *   - Threads may call at once on different states. On one state a call must be alone: the host locks, if it shares one.
@@ -28,8 +30,8 @@
 #include <stdint.h>
 
 /* The version of this header: ten thousand times the major number, a hundred times the minor one, and the patch. */
-#define PSIC_VERSION 10000u
-#define PSIC_VERSION_TEXT "1.0.0"
+#define PSIC_VERSION 10100u
+#define PSIC_VERSION_TEXT "1.1.0"
 
 /* The largest sizes: "n sources, 1 to 128", "m cores, 1 to 32". */
 #define PSIC_MAX_SOURCES 128u
@@ -39,6 +41,9 @@
 #define PSIC_STATE_SIZE 1156u
 #define PSIC_COMMAND_SIZE 5u
 #define PSIC_ANSWER_SIZE 5u
+
+/* The most commands that are taken from one recording. */
+#define PSIC_MAX_COMMANDS 65535u
 
 /* psic_run's answer where it runs nothing and writes nothing. */
 #define PSIC_NO_COUNT UINT64_MAX
@@ -76,8 +81,15 @@ typedef enum {
     PSIC_PENDING = 6,      /* "trigger of a pending source" */
     PSIC_EMPTY_BOX = 7,    /* "claim on an empty box, in a state or in a lent record" */
     PSIC_NOT_CLAIMED = 8,  /* "redeliver or complete of a request that isn't claimed" */
-    PSIC_UNREADABLE = 255  /* none of document 01's: a state's buffer of another length or with a flag that is neither 0 nor 1, or a
-                              command's number above 7 */
+    /* document 02's, of a recording: the first fault in reading order, at one place in the order 13, 19, 11, 12, 14 */
+    PSIC_BAD_TEXT = 11,          /* "text against that grammar or a time above 2^64 - 1" */
+    PSIC_BAD_VARIABLE = 12,      /* "a variable missing, repeated, of another name or width, or a code used twice, shown at the name, a
+                                    missing one at $enddefinitions" */
+    PSIC_UNKNOWN_VALUE = 13,     /* "an x or z in stb at the end of a stamp, or at a strobe in cmd or a value that the command uses" */
+    PSIC_TIME_NOT_RISING = 14,   /* "time not rising" */
+    PSIC_TOO_MANY_COMMANDS = 19, /* "a command after the 65,535th" */
+    PSIC_UNREADABLE = 255  /* none of document 01's: a state's buffer of another length or with a flag that is neither 0 nor 1, a
+                              command's number above 7, or a buffer without room for what a recording may hold */
 } psic_number;
 
 /* A number for no in words; of another number, that it is none. */
@@ -92,6 +104,11 @@ static inline const char *psic_in_words(unsigned number) {
     case PSIC_PENDING: return "the source is pending already";
     case PSIC_EMPTY_BOX: return "the box is empty";
     case PSIC_NOT_CLAIMED: return "the request isn't claimed";
+    case PSIC_BAD_TEXT: return "the text is against the grammar, or a time is above 2^64 - 1";
+    case PSIC_BAD_VARIABLE: return "a variable is missing, repeated, of another name or width, or its code is used twice";
+    case PSIC_UNKNOWN_VALUE: return "stb, or a value that the command uses, has an x or z";
+    case PSIC_TIME_NOT_RISING: return "the time isn't above the one before";
+    case PSIC_TOO_MANY_COMMANDS: return "there is a command after the 65,535th";
     case PSIC_UNREADABLE: return "the bytes can't be read";
     default: return "no number of this library";
     }
@@ -155,6 +172,14 @@ typedef struct {
     psic_source_id id;
 } psic_claimed;
 
+/* The answer of the calls on a recording: a psic_number; how many commands were written or answered; and the offset of the first byte of
+ * the word at which the number shows, or the text's length at its end. With PSIC_OK it is the text's length too. */
+typedef struct {
+    uint8_t number;
+    uint16_t count;
+    uint64_t offset;
+} psic_report;
+
 /* What a command answers: the claimed id is 0 but for an accepted claim; the cycles are retractions plus deliveries. */
 typedef struct {
     psic_number number;
@@ -174,6 +199,7 @@ PSIC_ASSERT_SIZE(psic_message_box, 6);
 PSIC_ASSERT_SIZE(psic_core, 8);
 PSIC_ASSERT_SIZE(psic_found, 4);
 PSIC_ASSERT_SIZE(psic_claimed, 4);
+PSIC_ASSERT_SIZE(psic_report, 16);
 PSIC_ASSERT_SIZE(psic_state, PSIC_STATE_SIZE);
 
 /* ---- the library's calls: proved, on any bytes ---- */
@@ -200,6 +226,25 @@ psic_found psic_highest_in(const psic_source *list, size_t list_len);
  * configured one, or it is dirty; 7 if it is empty. */
 psic_claimed psic_claim_in_place(psic_core *core);
 
+/* For how many commands there must be room where a text of this length is read or replayed: how many it holds isn't known before. */
+static inline size_t psic_room(size_t text_len) {
+    return text_len < PSIC_MAX_COMMANDS ? text_len : PSIC_MAX_COMMANDS;
+}
+
+/* The commands of a recording: Value Change Dump text, cut down as document 01's last section says. Each is written as psic_run reads it,
+ * PSIC_COMMAND_SIZE bytes, to the front of commands, and the time of the stamp at whose end it was taken to the front of times. The first
+ * fault in reading order ends the reading; the commands before it stand, also one taken at its word, and the bytes and times behind them
+ * stay as they were. Both buffers must have room for psic_room(text_len) commands and times (commands_len is in bytes, times_len in
+ * times), else PSIC_UNREADABLE, offset 0, count 0, and nothing is written. */
+psic_report psic_read(const uint8_t *text, size_t text_len, uint8_t *commands, size_t commands_len, uint64_t *times, size_t times_len);
+
+/* A replay of a recording on a fresh controller of n sources and m cores, which goes on after a refused command: the state after it, and
+ * an answer of PSIC_ANSWER_SIZE bytes for each command at the front of answers. Sizes out of range are PSIC_BAD_SIZE at offset 0 with
+ * count 0, before any reading, and nothing is written. A state's buffer of another length than PSIC_STATE_SIZE, or answers without room
+ * for psic_room(text_len) answers, is PSIC_UNREADABLE first of all. What the state's buffer holds before doesn't matter. */
+psic_report psic_replay(uint16_t n, uint16_t m, const uint8_t *text, size_t text_len, uint8_t *state, size_t state_len, uint8_t *answers,
+                        size_t answers_len);
+
 /* ---- a controller, by commands with types ---- */
 
 /* The parts of a packed answer. */
@@ -208,6 +253,32 @@ static inline psic_answer psic_unpacked(uint64_t packed) {
     answer.number = (psic_number)(packed & 0xff);
     answer.id = psic_source_id_of((uint16_t)(packed >> 8));
     answer.cycles = (uint16_t)(packed >> 24);
+    return answer;
+}
+
+/* A command of a list by its parts: the id or the core, and the priority, 0 where it has none. */
+typedef struct {
+    psic_command command;
+    uint16_t at;
+    uint16_t priority;
+} psic_listed;
+
+/* The command at position i of a list, and the answer at position i of a list of answers. */
+static inline psic_listed psic_command_at(const uint8_t *list, size_t i) {
+    const uint8_t *bytes = list + PSIC_COMMAND_SIZE * i;
+    psic_listed listed;
+    listed.command = (psic_command)bytes[0];
+    listed.at = (uint16_t)(bytes[1] | bytes[2] << 8);
+    listed.priority = (uint16_t)(bytes[3] | bytes[4] << 8);
+    return listed;
+}
+
+static inline psic_answer psic_answer_at(const uint8_t *answers, size_t i) {
+    const uint8_t *bytes = answers + PSIC_ANSWER_SIZE * i;
+    psic_answer answer;
+    answer.number = (psic_number)bytes[0];
+    answer.id = psic_source_id_of((uint16_t)(bytes[1] | bytes[2] << 8));
+    answer.cycles = (uint16_t)(bytes[3] | bytes[4] << 8);
     return answer;
 }
 

@@ -2,6 +2,7 @@
 //! that says why, and a state can be read.
 //!
 //! - [`Controller`] owns a state: make it, put commands to it, read it.
+//! - [`read`] gives the commands of a recording, and [`replay`] puts them to a fresh controller; [`recording`] says more.
 //! - [`highest_in`] and [`claim_in_place`] work on records that a host keeps in tables of its own.
 //! - [`bytes`] has the calls on a state as bytes in memory of the host's own, [`raw`] the library's calls with their numbers.
 //!
@@ -16,9 +17,11 @@ mod answer;
 pub mod bytes;
 mod command;
 mod controller;
+mod explain;
 mod lent;
 #[allow(unsafe_code)]
 pub mod raw;
+pub mod recording;
 mod records;
 
 pub use answer::{Answer, Refusal, ANSWER_SIZE};
@@ -26,6 +29,7 @@ pub use bytes::STATE_SIZE;
 pub use command::{Command, ParseCommandError, COMMAND_SIZE};
 pub use controller::Controller;
 pub use lent::{claim_in_place, highest_in};
+pub use recording::{read, replay, Fault, FaultKind, Reading, Replay, Stamped};
 pub use records::{Core, CoreId, MessageBox, Owner, Source, SourceId, MAX_CORES, MAX_SOURCES};
 
 /// The version of this package as a number: ten thousand times the major number, a hundred times the minor one, and the patch.

@@ -27,7 +27,20 @@ pub struct Claimed {
     pub id: SourceId,
 }
 
+/// The answer of the calls on a recording.
+#[repr(C)]
+#[derive(Clone, Copy, Debug, PartialEq, Eq)]
+pub struct Report {
+    /// The number of the first fault, or 2 for sizes out of range, or 255 for buffers that don't fit; 0 for none of these.
+    pub number: u8,
+    /// How many commands were written or answered.
+    pub count: u16,
+    /// The offset at which the fault shows; without one the text's length.
+    pub offset: u64,
+}
+
 const _: () = assert!(size_of::<Found>() == 4 && size_of::<Claimed>() == 4);
+const _: () = assert!(size_of::<Report>() == 16);
 
 extern "C" {
     fn psic_version() -> u32;
@@ -43,6 +56,24 @@ extern "C" {
     ) -> u64;
     fn psic_highest_in(list: *const Source, list_len: usize) -> Found;
     fn psic_claim_in_place(core: *mut Core) -> Claimed;
+    fn psic_read(
+        text: *const u8,
+        text_len: usize,
+        commands: *mut u8,
+        commands_len: usize,
+        times: *mut u64,
+        times_len: usize,
+    ) -> Report;
+    fn psic_replay(
+        n: u16,
+        m: u16,
+        text: *const u8,
+        text_len: usize,
+        state: *mut u8,
+        state_len: usize,
+        answers: *mut u8,
+        answers_len: usize,
+    ) -> Report;
 }
 
 /// The library's version.
@@ -88,4 +119,38 @@ pub fn highest_in(list: &[Source]) -> Found {
 pub fn claim_in_place(core: &mut Core) -> Claimed {
     // SAFETY: the record is in C's layout and lent for the call alone; the library writes 0 or 1 to its bools.
     unsafe { psic_claim_in_place(core) }
+}
+
+/// The commands of a recording, 5 bytes each, and the time of the stamp at whose end each was taken, in the fronts of two buffers. There
+/// must be room for as many commands and times as [`crate::recording::room`] says, else 255.
+pub fn read(text: &[u8], commands: &mut [u8], times: &mut [u64]) -> Report {
+    // SAFETY: pointers and lengths are those of three slices; two are lent for the call alone, so that none overlaps another.
+    unsafe {
+        psic_read(
+            text.as_ptr(),
+            text.len(),
+            commands.as_mut_ptr(),
+            commands.len(),
+            times.as_mut_ptr(),
+            times.len(),
+        )
+    }
+}
+
+/// The state after the commands of a recording, from a fresh controller of n sources and m cores, and an answer of 5 bytes for each in the
+/// front of a buffer. There must be room for as many answers as [`crate::recording::room`] says, and 1,156 bytes for the state, else 255.
+pub fn replay(n: u16, m: u16, text: &[u8], state: &mut [u8], answers: &mut [u8]) -> Report {
+    // SAFETY: pointers and lengths are those of three slices; two are lent for the call alone, so that none overlaps another.
+    unsafe {
+        psic_replay(
+            n,
+            m,
+            text.as_ptr(),
+            text.len(),
+            state.as_mut_ptr(),
+            state.len(),
+            answers.as_mut_ptr(),
+            answers.len(),
+        )
+    }
 }

@@ -1,11 +1,11 @@
 //! The C header and this package say the same: numbers, words, sizes.
 
-use psic::{Command, Refusal};
+use psic::{Command, FaultKind, Refusal};
 
 const HEADER: &str = include_str!("../include/psic.h");
 
-/// The header's name of a number.
-fn name(refusal: Refusal) -> &'static str {
+/// The header's name of a refusal.
+fn name_of_refusal(refusal: Refusal) -> &'static str {
     match refusal {
         Refusal::Unsound => "PSIC_UNSOUND",
         Refusal::BadSize => "PSIC_BAD_SIZE",
@@ -20,10 +20,23 @@ fn name(refusal: Refusal) -> &'static str {
     }
 }
 
+/// The header's name of a fault of a recording.
+fn name_of_fault(kind: FaultKind) -> &'static str {
+    match kind {
+        FaultKind::BadText => "PSIC_BAD_TEXT",
+        FaultKind::BadVariable => "PSIC_BAD_VARIABLE",
+        FaultKind::UnknownValue => "PSIC_UNKNOWN_VALUE",
+        FaultKind::TimeNotRising => "PSIC_TIME_NOT_RISING",
+        FaultKind::TooManyCommands => "PSIC_TOO_MANY_COMMANDS",
+        _ => panic!("{kind:?} has no name in the header"),
+    }
+}
+
 #[test]
 fn the_header_has_the_same_numbers_and_words() {
-    for refusal in Refusal::ALL {
-        let (name, number, words) = (name(refusal), refusal.number(), refusal.in_words());
+    let refusals = Refusal::ALL.map(|r| (name_of_refusal(r), r.number(), r.in_words()));
+    let faults = FaultKind::ALL.map(|f| (name_of_fault(f), f.number(), f.in_words()));
+    for (name, number, words) in refusals.into_iter().chain(faults) {
         let declared = [',', ' '].map(|end| HEADER.contains(&format!("{name} = {number}{end}")));
         assert!(declared.contains(&true), "{name}");
         assert!(
@@ -41,6 +54,7 @@ fn the_header_has_the_same_sizes() {
         ("PSIC_ANSWER_SIZE", psic::ANSWER_SIZE),
         ("PSIC_MAX_SOURCES", psic::MAX_SOURCES),
         ("PSIC_MAX_CORES", psic::MAX_CORES),
+        ("PSIC_MAX_COMMANDS", psic::recording::MAX_COMMANDS),
     ] {
         assert!(
             HEADER.contains(&format!("#define {name} {size}u\n")),
@@ -56,6 +70,10 @@ fn numbers_and_texts_are_read_back() {
         let refusal = Refusal::from_number(number);
         let expected = Refusal::ALL.into_iter().find(|r| r.number() == number);
         assert_eq!(refusal, expected);
+        let fault = FaultKind::from_number(number);
+        let expected = FaultKind::ALL.into_iter().find(|f| f.number() == number);
+        assert_eq!(fault, expected);
+        assert!(refusal.is_none() || fault.is_none(), "{number}");
     }
     for (number, form) in Command::FORMS.iter().enumerate() {
         let text = form.replace("ID", "1").replace("PRIORITY", "2");

@@ -21,6 +21,8 @@ pub const MAX_COMMANDS: usize = 65_535;
 pub struct Reading {
     /// The commands before the fault, also one taken at its word.
     pub commands: Vec<Command>,
+    /// The time of the stamp at whose end each command was taken.
+    pub times: Vec<u64>,
     /// The first fault in reading order. It ends the reading.
     pub fault: Option<Fault>,
     /// The text's length in bytes.
@@ -61,6 +63,7 @@ pub fn replay(n: u16, m: u16, text: &[u8]) -> Replay {
     } else {
         Reading {
             commands: Vec::new(),
+            times: Vec::new(),
             fault: Some(Fault::new(0, Reason::Sizes)),
             length: text.len(),
         }
@@ -88,10 +91,12 @@ pub fn read(text: &[u8]) -> Reading {
         stamp: None,
         up: false,
         commands: Vec::new(),
+        times: Vec::new(),
     };
     let fault = reader.text().err();
     Reading {
         commands: reader.commands,
+        times: reader.times,
         fault,
         length: text.len(),
     }
@@ -186,6 +191,8 @@ struct Reader<'t, W> {
     /// Whether stb was 1 at the end of the stamp before; it was 0 before the first.
     up: bool,
     commands: Vec<Command>,
+    /// The stamp at whose end each command was taken.
+    times: Vec<u64>,
 }
 
 impl<'t, W: Iterator<Item = Word<'t>>> Reader<'t, W> {
@@ -395,6 +402,7 @@ impl<'t, W: Iterator<Item = Word<'t>>> Reader<'t, W> {
                 return Err(Fault::new(offset, Reason::TooManyCommands));
             }
             self.commands.push(command);
+            self.times.push(stamp);
         }
         Ok(())
     }

@@ -5,9 +5,13 @@
 //! - [`text`] makes a text of one kind: valid, aimed at a fault, damaged, or with about as many
 //!   commands as are taken from one text.
 //! - [`Texts`] is an endless sequence of texts of all kinds.
+//! - [`edges`] are texts made by hand, each for one point.
 
+mod edges;
 mod faults;
 mod script;
+
+pub use edges::edges;
 
 use crate::random::Random;
 use crate::recording::MAX_COMMANDS;

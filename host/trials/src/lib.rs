@@ -2,10 +2,12 @@
 //!
 //! - [`library`] puts the library behind the reference's trait, so that one comparison runs both.
 //! - [`wrapper`] does the same with the typed wrapper.
+//! - [`recordings`] reads and replays texts by both.
 //! - [`fast`] is the model that the library's speed is compared with.
 //! - [`workload`] makes the benchmark's commands.
 
 pub mod fast;
 pub mod library;
+pub mod recordings;
 pub mod workload;
 pub mod wrapper;

@@ -146,7 +146,8 @@ fn unpacked(packed: u64) -> Answer {
     }
 }
 
-fn answer_of(bytes: &[u8]) -> Answer {
+/// The answer of these bytes, as docs/ENCODING.md lays them out.
+pub fn answer_of(bytes: &[u8]) -> Answer {
     Answer {
         number: bytes[0],
         id: u16::from_le_bytes([bytes[1], bytes[2]]),

@@ -100,7 +100,8 @@ pub fn typed(command: Command) -> psic::Command {
     }
 }
 
-fn answer_of(answer: Result<psic::Answer, Refusal>) -> Answer {
+/// The reference's form of an answer.
+pub fn answer_of(answer: Result<psic::Answer, Refusal>) -> Answer {
     match answer {
         Ok(answer) => Answer {
             number: 0,

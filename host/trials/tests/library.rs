@@ -1,6 +1,7 @@
 //! The proved library, and the typed wrapper over it, do what the independent model does: call by call, in whole lists, from sound and
 //! broken states, and on lent records.
 
+mod recordings;
 mod slips;
 
 use psic::bytes;
@@ -48,7 +49,7 @@ fn the_typed_wrapper_agrees_with_the_reference() {
 /// What is compared is the library's own answer, of each call, by both ways to it.
 #[test]
 fn every_slip_of_the_library_is_found() {
-    for slip in Slip::ALL {
+    for slip in Slip::OF_COMMANDS {
         let library = with_slip(slip, || first_difference(&Library, 4, 100));
         assert!(library.is_some(), "{slip:?}");
         let wrapper = with_slip(slip, || first_difference(&Wrapper, 4, 100));
@@ -295,6 +296,7 @@ fn a_command_is_read_back_from_its_bytes_and_its_text() {
     }
 }
 
+/// Bytes as the documents show them.
 fn hex(bytes: &[u8]) -> String {
     let words: Vec<String> = bytes.iter().map(|byte| format!("{byte:02x}")).collect();
     words.join(" ")

@@ -313,7 +313,9 @@ impl<'r> Script<'r> {
 /// Five codes of 1 to 4 bytes of 33 to 126, all different. Some mean something elsewhere, and some
 /// begin with another.
 fn codes(random: &mut Random) -> [Word; 5] {
-    const MEANING: [&str; 10] = ["$end", "#0", "#", "b1", "b", "x", "1!", "0", "$", "Z"];
+    const MEANING: [&str; 14] = [
+        "$end", "#0", "#", "b1", "b", "x", "1!", "0", "$", "Z", "$var", "wire", "stb", "prio",
+    ];
     let mut codes: [Word; 5] = Default::default();
     for made in 0..codes.len() {
         while codes[made].is_empty() || codes[..made].contains(&codes[made]) {

@@ -22,6 +22,8 @@ pub enum Slip {
     ChangesBeforeTheFirstTimeLost,
     FirstTimeMustBeAboveZero,
     TimesWrapAt2To64,
+    TimeOfTheWordThatEndsTheStamp,
+    TimesGivenIn32Bits,
     StrobeUnknownUntilGiven,
     // Values.
     LongVectorsCut,
@@ -49,7 +51,7 @@ pub enum Slip {
 
 impl Slip {
     /// All but the reader without a limit, which is a part of a faulty replay.
-    pub const ALL: [Slip; 30] = [
+    pub const ALL: [Slip; 32] = [
         Slip::EqualTimesAccepted,
         Slip::StrobeTakenByLevel,
         Slip::CommandLostAtABadWord,
@@ -62,6 +64,8 @@ impl Slip {
         Slip::ChangesBeforeTheFirstTimeLost,
         Slip::FirstTimeMustBeAboveZero,
         Slip::TimesWrapAt2To64,
+        Slip::TimeOfTheWordThatEndsTheStamp,
+        Slip::TimesGivenIn32Bits,
         Slip::StrobeUnknownUntilGiven,
         Slip::LongVectorsCut,
         Slip::OnesAfterAOne,
@@ -83,8 +87,11 @@ impl Slip {
     ];
 }
 
-/// What a reader answers: commands, number and offset.
-pub type Answered = (Vec<Command>, u8, usize);
+/// What a reader answers: commands with their times, number and offset.
+pub type Answered = (Vec<(u64, Command)>, u8, usize);
+
+/// A command, the offset at which it is taken, and the time of its stamp.
+pub type Taken = (usize, u64, Command);
 
 /// A number and the offset at which it shows.
 pub type Fault = (u8, usize);
@@ -97,8 +104,8 @@ pub fn read(text: &[u8], slip: Option<Slip>) -> Answered {
     let lost = has(Slip::CommandLostAtABadWord) && number != 0;
     let commands = taken
         .into_iter()
-        .filter(|&(at, _)| at < offset || at == offset && !lost)
-        .map(|(_, command)| command)
+        .filter(|&(at, ..)| at < offset || at == offset && !lost)
+        .map(|(_, time, command)| (time, command))
         .collect();
     if has(Slip::OffsetAfterTheWord) && number != 0 {
         let word = split(&text[offset..], slip).into_iter().next();
@@ -113,7 +120,7 @@ pub fn read(text: &[u8], slip: Option<Slip>) -> Answered {
 
 /// The first fault of the grammar and the first of the stamps, in reading order and at one place in
 /// the order 13, 19, 11, 12, 14; and every command with the offset at which it is taken.
-pub fn faults_and_commands(text: &[u8], slip: Option<Slip>) -> (Vec<Fault>, Vec<(usize, Command)>) {
+pub fn faults_and_commands(text: &[u8], slip: Option<Slip>) -> (Vec<Fault>, Vec<Taken>) {
     let mut grammar = Grammar::new(slip);
     let mut faults = Vec::from_iter(grammar.first_fault(&split(text, slip), text.len()));
     let mut stamps = Stamps::new(slip, &grammar.codes);
@@ -418,8 +425,7 @@ struct Stamps {
     latched: [Vec<u8>; 5],
     time: Option<Vec<u8>>,
     up: bool,
-    /// Each command with the offset at which it is taken.
-    taken: Vec<(usize, Command)>,
+    taken: Vec<Taken>,
 }
 
 impl Stamps {
@@ -462,7 +468,7 @@ impl Stamps {
             }
             Event::Time(time) => {
                 if self.time.is_some() || self.has(Slip::CommandAtTheFirstTime) {
-                    self.end_stamp(offset)?;
+                    self.end_stamp(offset, time.as_deref())?;
                 }
                 // The grammar's fault is all there is to a word that is no time.
                 time.as_ref().map_or(Ok(()), |time| self.begin_stamp(time))
@@ -488,7 +494,8 @@ impl Stamps {
         Ok(())
     }
 
-    fn end_stamp(&mut self, offset: usize) -> Result<(), u8> {
+    /// The stamp ends at a word, which may be a time.
+    fn end_stamp(&mut self, offset: usize, next: Option<&[u8]>) -> Result<(), u8> {
         let level = self.values[0][0];
         if level != b'0' && level != b'1' {
             return Err(13);
@@ -506,8 +513,24 @@ impl Stamps {
         if self.taken.len() == most {
             return Err(19);
         }
-        self.taken.push((offset, command));
+        let time = self.stamp_time(next);
+        self.taken.push((offset, time, command));
         Ok(())
+    }
+
+    /// The time of the open stamp, from its digits.
+    fn stamp_time(&self, next: Option<&[u8]>) -> u64 {
+        let digits = match next {
+            Some(next) if self.has(Slip::TimeOfTheWordThatEndsTheStamp) => next,
+            _ => self.time.as_deref().unwrap_or_default(),
+        };
+        let digits = String::from_utf8_lossy(digits);
+        let time = format!("0{digits}").parse().unwrap_or(u64::MAX);
+        if self.has(Slip::TimesGivenIn32Bits) {
+            time % (1 << 32)
+        } else {
+            time
+        }
     }
 
     fn command(&self) -> Result<Command, u8> {

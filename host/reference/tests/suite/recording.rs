@@ -6,6 +6,7 @@ use psic_reference::records::{Answer, Command, Controller};
 
 use crate::faulty_reader;
 use crate::histories::{claim, complete, mask, redeliver, set_core, set_source, trigger, unmask};
+use crate::texts::answered;
 
 /// Document 01's own text: trigger 4 alone.
 const TRIGGER_4: &str = r#"$timescale 1 ns $end
@@ -60,7 +61,7 @@ fn reads(marked: &str, number: u8, commands: &[Command]) -> Option<Fault> {
         reading.commands.last()
     );
     let second = faulty_reader::read(&text, None);
-    assert!(second == (commands.to_vec(), number, offset), "{shown}");
+    assert!(second == answered(&text), "{shown}");
     reading.fault
 }
 
@@ -458,6 +459,31 @@ fn strobes_are_rises_from_stamp_to_stamp() {
     );
     // stb is 0 until given.
     reads_stamps(&format!("{held} #0 #1 #2 1!"), 0, &[trigger(4)]);
+}
+
+/// The times of the commands of a text that ends with these words, to both readers.
+#[track_caller]
+fn taken_at(stamps: &str, times: &[u64]) {
+    let text = format!("{DECLARED}$enddefinitions $end\nb100 \" b1 $ {stamps}");
+    assert_eq!(read(text.as_bytes()).times, times, "{stamps}");
+    let second = faulty_reader::read(text.as_bytes(), None);
+    let second: Vec<u64> = second.0.into_iter().map(|(time, _)| time).collect();
+    assert_eq!(second, times, "{stamps}");
+}
+
+#[test]
+fn commands_have_the_time_of_the_stamp_at_whose_end_they_are_taken() {
+    taken_at("#5 1! #9", &[5]);
+    taken_at("#5 1!", &[5]);
+    taken_at("#5 1! ##", &[5]);
+    taken_at("#0 1! #0", &[0]);
+    // Changes before the first time carry into it.
+    taken_at("1! #7", &[7]);
+    // One strobe over three stamps, then another.
+    taken_at("#3 1! #4 1! #6 #8 0! #10 1! #12", &[3, 10]);
+    taken_at("#0007 1! #8 0! #18446744073709551615 1!", &[7, u64::MAX]);
+    taken_at("#4294967297 1! #4294967298 x!", &[4_294_967_297]);
+    taken_at("1!", &[]);
 }
 
 #[test]

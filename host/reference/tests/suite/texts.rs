@@ -7,7 +7,7 @@ use psic_reference::random::{run_seed, Random};
 use psic_reference::recording::{read, replay, MAX_COMMANDS};
 use psic_reference::records::{Answer, Command, Controller};
 use psic_reference::reference::{execute, make};
-use psic_reference::texts::{commands, of_commands, text, Kind, Text, Texts};
+use psic_reference::texts::{commands, edges, of_commands, text, Kind, Text, Texts};
 
 use crate::faulty_reader::{self, Answered, Slip};
 
@@ -28,10 +28,13 @@ fn separates(byte: &u8) -> bool {
     b" \t\r\n".contains(byte)
 }
 
-fn answered(text: &[u8]) -> Answered {
+/// What the reference reader answers.
+pub fn answered(text: &[u8]) -> Answered {
     let reading = read(text);
     let (number, offset) = (reading.number(), reading.offset());
-    (reading.commands, number, offset)
+    assert_eq!(reading.times.len(), reading.commands.len());
+    let commands = reading.times.into_iter().zip(reading.commands);
+    (commands.collect(), number, offset)
 }
 
 #[test]
@@ -53,7 +56,10 @@ fn commands_written_as_a_text_are_read_back() {
         let commands = commands(&mut random, count);
         let text = of_commands(&mut random, &commands);
         let shown = String::from_utf8_lossy(&text);
-        assert_eq!(answered(&text), (commands, 0, text.len()), "{shown}");
+        let reading = read(&text);
+        assert_eq!(reading.commands, commands, "{shown}");
+        assert_eq!(reading.fault, None, "{shown}");
+        assert!(reading.times.is_sorted_by(|a, b| a < b), "{shown}");
     }
 }
 
@@ -184,6 +190,24 @@ fn a_second_reader_agrees() {
         let second = faulty_reader::read(&text.bytes, None);
         assert!(answered(&text.bytes) == second, "{}", text.seed);
     }
+    for text in edges() {
+        let second = faulty_reader::read(&text, None);
+        let shown = String::from_utf8_lossy(&text[text.len().saturating_sub(300)..]);
+        assert!(answered(&text) == second, "{shown}");
+    }
+}
+
+/// The texts made by hand show every number, and some are at the limit on commands.
+#[test]
+fn edges_show_every_number() {
+    let readings: Vec<_> = edges().iter().map(|text| read(text)).collect();
+    for number in [0, 11, 12, 13, 14, 19] {
+        let shown = readings.iter().filter(|r| r.number() == number).count();
+        assert!(shown >= 2, "{number}: {shown}");
+    }
+    let full = readings.iter().filter(|r| r.commands.len() == MAX_COMMANDS);
+    let numbers: Vec<u8> = full.map(|reading| reading.number()).collect();
+    assert_eq!(numbers, [0, 19, 13, 19]);
 }
 
 #[test]
@@ -230,6 +254,7 @@ fn wrong_replay(wrong: Wrong, n: u16, m: u16, text: &[u8]) -> Replayed {
     let (size, mut controller) = make(n, m);
     let slip = (wrong == Wrong::OnlyAcceptedCommandsCount).then_some(Slip::CommandsWithoutLimit);
     let (commands, number, offset) = faulty_reader::read(text, slip);
+    let commands: Vec<Command> = commands.into_iter().map(|(_, command)| command).collect();
     if size != 0 {
         let (number, offset) = match wrong {
             Wrong::SizesTestedAfterReading if number != 0 => (number, offset),

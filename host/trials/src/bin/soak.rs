@@ -1,9 +1,12 @@
 //! A long comparison of the proved library with the reference model.
 //!
 //! usage: `soak [ROUNDS [LENGTH [SEED]]]` (default: 12000 rounds of 1000 commands, and a seed from the clock)
+//!        `soak texts [COUNT [SEED]]` (default: 1000000 texts)
 //!
-//! Each round runs, from one printed seed, makings of any sizes, a history by single commands and as a list, one command of each kind
-//! and all of them as a list on broken states made from its end, and lent records. The first difference ends the run with status 1.
+//! Each text is read, one in four also replayed, and the totals are printed by number.
+//!
+//! Each round of commands runs, from one printed seed, makings of any sizes, a history by single commands and as a list, one command of
+//! each kind and all of them as a list on broken states made from its end, and lent records. The first difference ends a run with status 1.
 
 use std::time::{SystemTime, UNIX_EPOCH};
 
@@ -13,12 +16,48 @@ use psic_reference::generate::{self, Mix};
 use psic_reference::model::Reference;
 use psic_reference::random::Random;
 use psic_trials::library::Library;
+use psic_trials::recordings::{self, Trial};
 
 fn main() {
-    let mut words = std::env::args().skip(1).map(|word| {
+    let mut words = std::env::args().skip(1).peekable();
+    let texts = words.next_if_eq("texts").is_some();
+    let numbers = words.map(|word| {
         word.parse::<u64>()
             .unwrap_or_else(|_| panic!("{word} is no number"))
     });
+    if texts {
+        read_texts(numbers);
+    } else {
+        run_commands(numbers);
+    }
+}
+
+fn read_texts(mut words: impl Iterator<Item = u64>) {
+    let count = words.next().unwrap_or(1_000_000);
+    let seed = words.next().unwrap_or_else(clock);
+    println!("seed {seed}, {count} texts");
+    let mut trial = Trial::new(seed);
+    for position in 1..=count {
+        if let Err(difference) = trial.step(&recordings::Library) {
+            println!("text {position}: {difference}");
+            std::process::exit(1);
+        }
+        if position % 100_000 == 0 {
+            println!("{position} texts, no difference");
+        }
+    }
+    let totals = &trial.totals;
+    let (bytes, commands) = (totals.bytes, totals.commands);
+    println!("{count} texts of {bytes} bytes with {commands} commands, 0 differences");
+    for (number, texts) in &totals.texts {
+        println!("number {number}: {texts} texts");
+    }
+    for (number, replays) in &totals.replays {
+        println!("number {number}: {replays} replays");
+    }
+}
+
+fn run_commands(mut words: impl Iterator<Item = u64>) {
     let rounds = words.next().unwrap_or(12_000);
     let length = words.next().unwrap_or(1_000) as usize;
     let seed = words.next().unwrap_or_else(clock);

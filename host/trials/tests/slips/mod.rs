@@ -4,8 +4,8 @@
 
 use std::cell::Cell;
 
-use psic::raw::{Claimed, Found};
-use psic::{Core, Source, ANSWER_SIZE, STATE_SIZE};
+use psic::raw::{Claimed, Found, Report};
+use psic::{Core, Source, ANSWER_SIZE, COMMAND_SIZE, STATE_SIZE};
 
 /// What of a call's answer is altered, if the call was accepted.
 #[derive(Clone, Copy, Debug, PartialEq, Eq)]
@@ -24,10 +24,25 @@ pub enum Slip {
     ClaimNumber,
     ClaimId,
     ClaimRecord,
+    ReadNumber,
+    ReadOffset,
+    ReadCount,
+    ReadCommand,
+    ReadTime,
+    ReadBehindCommands,
+    ReadBehindTimes,
+    ReplayNumber,
+    ReplayOffset,
+    ReplayCount,
+    ReplayAnswer,
+    ReplayState,
+    ReplayStateOfRefusedSizes,
+    ReplayBehindAnswers,
 }
 
 impl Slip {
-    pub const ALL: [Slip; 14] = [
+    /// Of the calls on a state and on lent records.
+    pub const OF_COMMANDS: [Slip; 14] = [
         Slip::MakeNumber,
         Slip::MakeState,
         Slip::ExecuteNumber,
@@ -43,6 +58,35 @@ impl Slip {
         Slip::ClaimId,
         Slip::ClaimRecord,
     ];
+
+    /// Of the calls on a recording.
+    pub const OF_RECORDINGS: [Slip; 14] = [
+        Slip::ReadNumber,
+        Slip::ReadOffset,
+        Slip::ReadCount,
+        Slip::ReadCommand,
+        Slip::ReadTime,
+        Slip::ReadBehindCommands,
+        Slip::ReadBehindTimes,
+        Slip::ReplayNumber,
+        Slip::ReplayOffset,
+        Slip::ReplayCount,
+        Slip::ReplayAnswer,
+        Slip::ReplayState,
+        Slip::ReplayStateOfRefusedSizes,
+        Slip::ReplayBehindAnswers,
+    ];
+
+    /// Whether the slip is in memory that the typed functions don't hand out.
+    pub fn is_behind(self) -> bool {
+        let behind = [
+            Slip::ReadBehindCommands,
+            Slip::ReadBehindTimes,
+            Slip::ReplayStateOfRefusedSizes,
+            Slip::ReplayBehindAnswers,
+        ];
+        behind.contains(&self)
+    }
 }
 
 thread_local! {
@@ -80,6 +124,24 @@ extern "C" {
     ) -> u64;
     fn __real_psic_highest_in(list: *const Source, list_len: usize) -> Found;
     fn __real_psic_claim_in_place(core: *mut Core) -> Claimed;
+    fn __real_psic_read(
+        text: *const u8,
+        text_len: usize,
+        commands: *mut u8,
+        commands_len: usize,
+        times: *mut u64,
+        times_len: usize,
+    ) -> Report;
+    fn __real_psic_replay(
+        n: u16,
+        m: u16,
+        text: *const u8,
+        text_len: usize,
+        state: *mut u8,
+        state_len: usize,
+        answers: *mut u8,
+        answers_len: usize,
+    ) -> Report;
 }
 
 /// Flips a bit of the last core's box priority.
@@ -187,4 +249,68 @@ unsafe extern "C" fn __wrap_psic_claim_in_place(core: *mut Core) -> Claimed {
         claimed.number = 7;
     }
     claimed
+}
+
+#[no_mangle]
+unsafe extern "C" fn __wrap_psic_read(
+    text: *const u8,
+    text_len: usize,
+    commands: *mut u8,
+    commands_len: usize,
+    times: *mut u64,
+    times_len: usize,
+) -> Report {
+    // SAFETY: the arguments are passed on as they came; what is altered lies within the buffers, by their lengths.
+    unsafe {
+        let mut report = __real_psic_read(text, text_len, commands, commands_len, times, times_len);
+        let count = usize::from(report.count);
+        match SLIP.get() {
+            Some(Slip::ReadNumber) if report.number == 11 => report.number = 14,
+            Some(Slip::ReadOffset) if report.number == 11 => report.offset += 1,
+            Some(Slip::ReadCount) if count > 0 => report.count -= 1,
+            Some(Slip::ReadCommand) if count > 0 => *commands.add(COMMAND_SIZE * count - 4) ^= 1,
+            Some(Slip::ReadTime) if count > 0 => *times.add(count - 1) += 1,
+            Some(Slip::ReadBehindCommands) if COMMAND_SIZE * count < commands_len => {
+                *commands.add(COMMAND_SIZE * count) = 0
+            }
+            Some(Slip::ReadBehindTimes) if count < times_len => *times.add(count) = 0,
+            _ => {}
+        }
+        report
+    }
+}
+
+#[no_mangle]
+unsafe extern "C" fn __wrap_psic_replay(
+    n: u16,
+    m: u16,
+    text: *const u8,
+    text_len: usize,
+    state: *mut u8,
+    state_len: usize,
+    answers: *mut u8,
+    answers_len: usize,
+) -> Report {
+    // SAFETY: the arguments are passed on as they came; what is altered lies within the buffers, by their lengths.
+    unsafe {
+        let mut report =
+            __real_psic_replay(n, m, text, text_len, state, state_len, answers, answers_len);
+        let count = usize::from(report.count);
+        match SLIP.get() {
+            Some(Slip::ReplayNumber) if report.number == 11 => report.number = 14,
+            Some(Slip::ReplayOffset) if report.number == 11 => report.offset += 1,
+            Some(Slip::ReplayCount) if count > 0 => report.count -= 1,
+            Some(Slip::ReplayAnswer) if count > 0 => {
+                let last = answers.add(ANSWER_SIZE * (count - 1));
+                *last = if *last == 0 { 8 } else { 0 };
+            }
+            Some(Slip::ReplayState) if report.number == 0 => flip_last(state),
+            Some(Slip::ReplayStateOfRefusedSizes) if report.number == 2 => flip_last(state),
+            Some(Slip::ReplayBehindAnswers) if ANSWER_SIZE * count < answers_len => {
+                *answers.add(ANSWER_SIZE * count) = 0
+            }
+            _ => {}
+        }
+        report
+    }
 }

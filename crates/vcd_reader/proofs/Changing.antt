@@ -1,0 +1,392 @@
+-- What changes and times do where a change may stand. Assumes nothing.
+--   names-cmd, .., names-prio    the first variable with a code
+--   places-some, places-none     a vector's code names a variable that takes the vector, or not
+--   coded-vector                 bits from an offset on and the code that follows them
+--   follows-vector, follows-level, follows-time    a whole change, or a time, that gives no command
+--   quiet-vector, quiet-level, quiet-time          the same from a reader with other values, time and level
+--   takes-command                a time that gives a command
+use Prim.Native.Nat.{ℕ, _+_, _-_, _%_, _<_, _≤_, min}
+use mathlib.Core.Path.{_≡_, refl, sym, ap, subst, _∙_}
+use mathlib.Core.Option.{some}
+use mathlib.Core.List.{List, [], _∷_, map}
+use mathlib.Core.Bool.{Bool, true, false, not, _&&_, _||_, and-false}
+use lib.ListN.{length, getD}
+use lib.Dec.{ltb, leb, eqb}
+use native.Mathlib.Omega.{arith}
+use borrow.Author.Tests.{lt-ltb, lt-leb, ltb-true, ltb-false, eq-eqb, ne-eqb, eqb-true, not-false}
+use Rattle.lists.proofs.Bools.{and-in, and-l, and-r, or-off, clash, Flag, on, off, flag}
+use Rattle.recording.specs.declared.Place.{Place}
+use Rattle.recording.specs.declared.Place.the-variants.{Body, BodyCode}
+use Rattle.recording.specs.declared.Signal.{Signal}
+use Rattle.recording.specs.declared.Signal.the-variants.{Stb, Cmd, Core, Arg, Prio}
+use Rattle.recording.specs.declared.Value.{Value}
+use Rattle.recording.specs.declared.Variable.{Variable}
+use Rattle.recording.specs.declared.Variables.{Variables}
+use Rattle.recording.specs.declared.Vector.{Vector}
+use Rattle.recording.specs.declared.Reader.{Reader}
+use Rattle.recording.specs.Words.{separator, wordAt, all}
+use Rattle.recording.specs.Values.{isBit, isDefinite, bitOf, bitNumber, numeral, valueOf, vectorOf, codeOf}
+use Rattle.recording.specs.Records.{variable, variableOf, variableWith, withVariableOf, stampWith, withStamp, at, withVector, withUp, withTime, readWith, only}
+use Rattle.recording.specs.Declarations.{hasCode}
+use Rattle.recording.specs.Stamps.{isReadable, strobeOf, endStamp, endOpenStamp}
+use Rattle.recording.specs.Reading.{readWord, readAt, readBody, readChange, isVector, vectorSignal, readVectorCode, isTime, timeOf, openStamp, andThen, readTime}
+use Rattle.vcd_words.specs.declared.Number.{Number}
+use Rattle.vcd_words.specs.Partial.{numberWith, moreBits}
+use Rattle.vcd_words.proofs.Bytes.{above-separators, run-more, run-separator, run-end}
+use Rattle.vcd_words.proofs.Sums.{bitsOf, bits-sum}
+use Rattle.vcd_reader.specs.declared.Bits.{Bits}
+use Rattle.vcd_reader.specs.declared.Coded.{Coded}
+use Rattle.vcd_reader.specs.declared.Given.{Given}
+use Rattle.vcd_reader.specs.declared.Placed.{Placed}
+use Rattle.vcd_reader.specs.declared.Timed.{Timed}
+use Rattle.vcd_reader.specs.Advances.{Follows}
+use Rattle.vcd_reader.specs.Runs.{wordFrom, timedWith, Ones, CodeThere, TimeThere, Skips}
+use Rattle.vcd_reader.specs.Changes.{givenWith, knownVector, placedWith, withVariables, changedTo, CodedVector, VectorThere, Places, QuietTime, withLevel, takenAt, Takes}
+use Rattle.vcd_reader.proofs.Follows.{follows-then, follows-passes, follows-word, word-within}
+use Rattle.vcd_reader.proofs.Reaching.{isKnown, known-range, no-time}
+
+-- ---- the variable of a code
+
+module _ (r : Reader) (w : List ℕ) (s : Signal) where
+  pub has-code : 0 < codeOf w → (variable r s) .code ≡ codeOf w → hasCode r w s ≡ true
+  has-code h e = and-in (lt-ltb 0 ((variable r s) .code) (omega arith)) (eq-eqb ((variable r s) .code) (codeOf w) e)
+
+  pub has-other : ((variable r s) .code ≡ codeOf w → ⊥) → hasCode r w s ≡ false
+  has-other h = rw (ne-eqb ((variable r s) .code) (codeOf w) h, and-false)
+
+-- the first variable with a code
+module _ (vs : Variables) (code : ℕ) (h : code ≡ 0 → ⊥) where
+  abbrev pub Names : Signal → Type 0
+  Names s = (r : Reader) (w : List ℕ) → r .variables ≡ vs → code ≡ codeOf w → vectorSignal r w ≡ some s
+
+  -- the code of a variable, or of another
+  has : (s : Signal) → code ≡ (variableOf vs s) .code → (r : Reader) (w : List ℕ) → r .variables ≡ vs → code ≡ codeOf w →
+      hasCode r w s ≡ true
+  has s e r w er ec = has-code r w s (omega arith) (ap (λ (x : Variables). (variableOf x s) .code) er ∙ sym e ∙ ec)
+
+  lacks : (s : Signal) → (code ≡ (variableOf vs s) .code → ⊥) → (r : Reader) (w : List ℕ) → r .variables ≡ vs → code ≡ codeOf w →
+      hasCode r w s ≡ false
+  lacks s k r w er ec = has-other r w s (λ e. k (ec ∙ sym e ∙ ap (λ (x : Variables). (variableOf x s) .code) er))
+
+  pub names-cmd : code ≡ vs .cmd .code → Names Cmd
+  names-cmd e r w er ec = rw (has Cmd e r w er ec)
+
+  module _ (no-cmd : code ≡ vs .cmd .code → ⊥) where
+    pub names-core : code ≡ vs .core .code → Names Core
+    names-core e r w er ec = rw (lacks Cmd no-cmd r w er ec, has Core e r w er ec)
+
+    module _ (no-core : code ≡ vs .core .code → ⊥) where
+      pub names-arg : code ≡ vs .arg .code → Names Arg
+      names-arg e r w er ec = rw (lacks Cmd no-cmd r w er ec, lacks Core no-core r w er ec, has Arg e r w er ec)
+
+      pub names-prio : (code ≡ vs .arg .code → ⊥) → code ≡ vs .prio .code → Names Prio
+      names-prio no-arg e r w er ec =
+          rw (lacks Cmd no-cmd r w er ec, lacks Core no-core r w er ec, lacks Arg no-arg r w er ec, has Prio e r w er ec)
+
+module _ (vs : Variables) (code : ℕ) (v : Vector) (p : Placed) where
+  pub places-some :
+      (s : Signal) (x : Variable) (fits : Bool) → p ≡ placedWith fits (withVariableOf vs s x) →
+      fits ≡ leb (v .length) ((variableOf vs s) .width) → x ≡ variableWith ((variableOf vs s) .code) ((variableOf vs s) .width) (v .value) →
+      (code ≡ 0 → ⊥) → ((r : Reader) (w : List ℕ) → r .variables ≡ vs → code ≡ codeOf w → vectorSignal r w ≡ some s) → Places vs code v p
+  unfolding readVectorCode
+  places-some s x fits e ef ex h named =
+      rw e
+      (record {
+        some = λ f. omega arith;
+        takes = λ f r i w er ev ec.
+            go r i w er ev (named r w er ec) (sym ef ∙ f);
+      })
+    where
+      go : (r : Reader) (i : ℕ) (w : List ℕ) → r .variables ≡ vs → r .pending .vector ≡ v → vectorSignal r w ≡ some s →
+          leb (v .length) ((variableOf vs s) .width) ≡ true →
+          readVectorCode Body (vectorSignal r w) r (wordAt i w) ≡ withVariables (withVariableOf vs s x) (at Body r)
+      go r i w er ev es el =
+          let el′ : leb (r .pending .vector .length) ((variableOf (r .variables) s) .width) ≡ true = rw (er, ev) el in
+          rw (es, ex, ← er, ← ev, el′)
+
+  pub places-none : (vs′ : Variables) → p ≡ placedWith false vs′ → Places vs code v p
+  places-none vs′ e = rw e (record { some = λ f. clash f refl; takes = λ f. clash f refl })
+
+-- ---- a vector with its code
+
+-- bits that are all known, and their number
+module _ (u : List ℕ) (n : ℕ) (e : moreBits (numberWith true true false 0) u ≡ numberWith true true false n) where
+  sum : bitsOf (numberWith true true false 0) 0 u ≡ numberWith true true false n
+  sum = sym (bits-sum (numberWith true true false 0) 0 u refl) ∙ e
+
+  all-bits : all isBit u ≡ true
+  all-bits = go (flag (all isBit u)) sum
+    where
+      go : Flag (all isBit u) → bitsOf (numberWith true true false 0) 0 u ≡ numberWith true true false n → all isBit u ≡ true
+      go (on f) g = f
+      go (off f) g = let no : false ≡ true = ap (λ (x : Number). x .whole) (rw f at g) in clash no refl
+
+  full :
+      numberWith true (all isDefinite (map bitOf u)) false (min 65535 (numeral 2 0 (map bitNumber (map bitOf u)))) ≡
+      numberWith true true false n
+  full = rw all-bits at sum
+
+  number-held : n ≤ 65535
+  number-held = omega (arith, ap (λ (x : Number). x .value) full)
+
+  vector-known : knownVector (min 255 (length u)) n ≡ vectorOf u
+  unfolding vectorOf valueOf
+  vector-known = rw (ap (λ (x : Number). x .known) full, ap (λ (x : Number). x .value) full)
+
+-- a word that is a code begins at its offset
+module _ (t : List ℕ) (i : ℕ) (h : 0 < codeOf (wordFrom t i)) where
+  no-word : wordFrom t i ≡ [] → ⊥
+  unfolding codeOf
+  no-word e = let none : codeOf (wordFrom t i) ≡ 0 = ap codeOf e in omega arith
+
+  code-inside : i < length t
+  code-inside = go (flag (ltb i (length t)))
+    where
+      go : Flag (ltb i (length t)) → i < length t
+      go (on f) = ltb-true i (length t) f
+      go (off f) = absurd (no-word (run-end t i (ltb-false i (length t) f)))
+
+  code-starts : separator (getD t i 0) ≡ false
+  code-starts = go (flag (separator (getD t i 0)))
+    where
+      go : Flag (separator (getD t i 0)) → separator (getD t i 0) ≡ false
+      go (on f) = absurd (no-word (run-separator t i code-inside f))
+      go (off f) = f
+
+some-bits : (u : List ℕ) → 0 < length u → all isBit u ≡ true → isVector (98 ∷ u) ≡ true
+some-bits [] h e = absurd (omega arith)
+some-bits (b ∷ u) h e = e
+
+module _ (t : List ℕ) (from : ℕ) where
+  pub coded-vector :
+      (b : Bits) (i : ℕ) (c : Coded) (v : Vector) (end : ℕ) (g : Given) →
+      Ones t from b → b .whole ≡ true → from < b .end → b .end - from ≤ 255 → Skips t (b .end) i → CodeThere t i c →
+      v ≡ knownVector (b .end - from) (b .number % 65536) → Skips t (c .end) end → g ≡ givenWith end (c .code) v → VectorThere t from g
+  coded-vector b i c v end g o whole more short s k ev s′ eg = rw eg (λ h. go h (o .end whole) (o .number whole) (k .end h) (k .code h))
+    where
+      go : 0 < c .code → b .end ≡ from + length (wordFrom t from) →
+          moreBits (numberWith true true false 0) (wordFrom t from) ≡ numberWith true true false (b .number) →
+          c .end ≡ i + length (wordFrom t i) → c .code ≡ codeOf (wordFrom t i) → CodedVector t from (givenWith end (c .code) v)
+      go h ends bits cends code =
+          let u = wordFrom t from in
+          let there : 0 < codeOf (wordFrom t i) = omega arith in
+          let count : b .end - from ≡ min 255 (length u) = omega arith in
+          let held = number-held u (b .number) bits in
+          let same : b .number % 65536 ≡ b .number = omega arith in
+          let inside = code-inside t i there in
+          let starts = code-starts t i there in
+          record {
+            at = i;
+            bits = some-bits u (omega arith) (all-bits u (b .number) bits);
+            vector = rw (ev, count, same) (vector-known u (b .number) bits);
+            passes = rw (← ends) (s .passes);
+            later = omega (arith, s .moves);
+            inside = inside;
+            starts = starts;
+            code = code;
+            rest = rw (← cends) (s′ .passes);
+            moves = omega (arith, s′ .moves);
+            within = s′ .within (word-within t i inside starts (c .end) cends);
+          }
+
+  pub no-vector : (end : ℕ) (v : Vector) (g : Given) → g ≡ givenWith end 0 v → VectorThere t from g
+  no-vector end v g e = rw e (λ h. absurd (omega arith))
+
+-- the variable of a code that is one
+pub some-code : (answer : Bool) (code own : ℕ) → answer ≡ (ltb 0 code && eqb own code) → not answer ≡ false → 0 < code
+some-code answer code own e h = ltb-true 0 code (and-l (ltb 0 code) (eqb own code) (sym e ∙ not-false answer h))
+
+-- ---- what words do
+
+abbrev pub isBinary : ℕ → Bool
+isBinary b = eqb b 98 || eqb b 66
+
+binary-range : (b : ℕ) → isBinary b ≡ true → 32 < b
+binary-range b e = go (flag (eqb b 98))
+  where
+    go : Flag (eqb b 98) → 32 < b
+    go (on f) = omega (arith, eqb-true b 98 f)
+    go (off f) = omega (arith, eqb-true b 66 (or-off (eqb b 98) (eqb b 66) e f))
+
+module _ (r : Reader) (i : ℕ) (u : List ℕ) (good : r .fault .number ≡ 0) where
+  read-code :
+      readWord (at BodyCode r) (wordAt i u) ≡
+      only (readVectorCode Body (vectorSignal (at BodyCode r) u) (at BodyCode r) (wordAt i u))
+  unfolding readWord readAt
+  read-code = rw (eq-eqb _ _ good)
+
+  module _ (pl : r .place ≡ Body) where
+    read-vector :
+        (b : ℕ) → isBinary b ≡ true → isVector (98 ∷ u) ≡ true →
+        readWord r (wordAt i (b ∷ u)) ≡ only (at BodyCode (withVector (vectorOf u) r))
+    unfolding readWord readAt readBody readChange
+    read-vector b k e = go (flag (eqb b 98))
+      where
+        go : Flag (eqb b 98) → readWord r (wordAt i (b ∷ u)) ≡ only (at BodyCode (withVector (vectorOf u) r))
+        go (on f) = rw (eqb-true b 98 f, eq-eqb _ _ good, pl, e)
+        go (off f) = rw (eqb-true b 66 (or-off (eqb b 98) (eqb b 66) k f), eq-eqb _ _ good, pl, e)
+
+    read-level :
+        (b : ℕ) → isKnown b ≡ true → hasCode r u Stb ≡ true →
+        readWord r (wordAt i (b ∷ u)) ≡ only (withVariables (withLevel (r .variables) b) (at Body r))
+    unfolding readWord readAt readBody readChange valueOf
+    read-level b e k = go (flag (eqb b 48))
+      where
+        go : Flag (eqb b 48) → readWord r (wordAt i (b ∷ u)) ≡ only (withVariables (withLevel (r .variables) b) (at Body r))
+        go (on f) = rw (eqb-true b 48 f, eq-eqb _ _ good, pl, k)
+        go (off f) = rw (eqb-true b 49 (or-off (eqb b 48) (eqb b 49) e f), eq-eqb _ _ good, pl, k)
+
+    read-hash : readWord r (wordAt i (35 ∷ u)) ≡ readTime r (wordAt i (35 ∷ u))
+    unfolding readWord readAt readBody
+    read-hash = rw (eq-eqb _ _ good, pl)
+
+-- a time at the end of an open stamp
+module _ (r : Reader) (i : ℕ) (w : List ℕ) (time : ℕ) (good : r .fault .number ≡ 0) (e : isTime w ≡ true) (et : time ≡ timeOf w)
+    (opened : r .stamp .opened ≡ true) (known : r .variables .stb .value .known ≡ true) (later : r .stamp .time < time) where
+  later-word : ltb (r .stamp .time) (timeOf w) ≡ true
+  later-word = lt-ltb (r .stamp .time) (timeOf w) (omega arith)
+
+  time-quiet :
+      (eqb (r .variables .stb .value .number) 1 && not (r .stamp .up)) ≡ false →
+      readTime r (wordAt i w) ≡ only (withTime time (withUp (eqb (r .variables .stb .value .number) 1) r))
+  unfolding readTime andThen endOpenStamp endStamp openStamp
+  time-quiet q = rw (opened, known, q, eq-eqb _ _ good, e, later-word, et)
+
+  time-taken :
+      r .variables .stb .value .number ≡ 1 → r .stamp .up ≡ false → isReadable r ≡ true → r .taken < 65535 →
+      readTime r (wordAt i w) ≡ readWith (takenAt r time) (strobeOf r)
+  unfolding readTime andThen endOpenStamp endStamp openStamp isReadable strobeOf
+  time-taken n up readable room =
+      rw (opened, known, eq-eqb _ _ n, up, readable, lt-leb 65535 (r .taken) room, eq-eqb _ _ good, e, later-word, et)
+
+pub takes-all :
+    (r : Reader) (time : ℕ) → r .stamp .opened ≡ true → r .variables .stb .value .known ≡ true → r .variables .stb .value .number ≡ 1 →
+    r .stamp .up ≡ false → r .stamp .time < time → r .taken < 65535 → isReadable r ≡ true → Takes r time
+takes-all r time opened known n up later room readable =
+    record { room = room; gives = λ good i w e et. time-taken r i w time good e et opened known later n up readable room }
+
+-- no time, or one that gives a command
+pub no-quiet :
+    (t : List ℕ) (from : ℕ) (opened : Bool) (level : Value) (up : Bool) (time : ℕ) (a : Timed) (i : ℕ) → a ≡ timedWith false i 0 →
+    QuietTime t from opened level up time a
+no-quiet t from opened level up time a i e =
+    rw e
+    (record {
+      there = no-time t from (timedWith false i 0) i refl;
+      isOpen = λ f. clash f refl;
+      known = λ f. clash f refl;
+      quiet = λ f. clash f refl;
+      later = λ f. clash f refl;
+    })
+
+-- ---- a text read on
+
+module _ (t : List ℕ) (i : ℕ) (h : i < length t) where
+  module _ (b : ℕ) (eb : getD t i 0 ≡ b) (above : 32 < b) where
+    pub starts-word : separator (getD t i 0) ≡ false
+    starts-word = rw eb (above-separators b above)
+
+    pub word-first : wordFrom t i ≡ b ∷ wordFrom t (i + 1)
+    word-first = run-more t i h starts-word ∙ ap (λ (x : ℕ). x ∷ wordFrom t (i + 1)) eb
+
+    pub first-end : (end : ℕ) → end ≡ i + 1 + length (wordFrom t (i + 1)) → end ≡ i + length (wordFrom t i)
+    first-end end e = omega (arith, ap length word-first)
+
+    follows-first :
+        (end : ℕ) (r r′ : Reader) → end ≡ i + 1 + length (wordFrom t (i + 1)) →
+        readWord r (wordAt i (b ∷ wordFrom t (i + 1))) ≡ only r′ → Follows t i r end r′
+    follows-first end r r′ e g =
+        follows-word t i h starts-word end (first-end end e) r r′ (ap (λ (w : List ℕ). readWord r (wordAt i w)) word-first ∙ g)
+
+    -- a word, and the separators after it
+    follows-skip :
+        (end end′ : ℕ) (r r′ : Reader) → end ≡ i + 1 + length (wordFrom t (i + 1)) → Skips t end end′ →
+        readWord r (wordAt i (b ∷ wordFrom t (i + 1))) ≡ only r′ → Follows t i r end′ r′
+    follows-skip end end′ r r′ e s g =
+        follows-then t (follows-first end r r′ e g) (follows-passes t end end′ r′ (s .moves) (s .within) (s .passes))
+
+  module _ (r : Reader) (pl : r .place ≡ Body) (good : r .fault .number ≡ 0) where
+    pub follows-vector :
+        (b : ℕ) (g : Given) (p : Placed) → getD t i 0 ≡ b → isBinary b ≡ true → CodedVector t (i + 1) g →
+        Places (r .variables) (g .code) (g .vector) p → p .found ≡ true →
+        Follows t i r (g .end) (withVariables (p .variables) (at Body (withVector (g .vector) r)))
+    follows-vector b g p eb k v q f =
+        let u = wordFrom t (i + 1) in
+        let mid = i + 1 + length u in
+        let code = wordFrom t (v .at) in
+        let over = v .at + length code in
+        let r₁ = at BodyCode (withVector (g .vector) r) in
+        let r₂ = withVariables (p .variables) (at Body (withVector (g .vector) r)) in
+        follows-then t
+        (follows-first b eb (binary-range b k) mid r r₁ refl
+        (read-vector r i u good pl b k (v .bits) ∙ ap (λ (x : Vector). only (at BodyCode (withVector x r))) (sym (v .vector))))
+        (follows-then t (follows-passes t mid (v .at) r₁ (v .later) (λ x. omega (arith, v .inside)) (v .passes))
+        (follows-then t
+        (follows-word t (v .at) (v .inside) (v .starts) over refl r₁ r₂
+        (read-code (withVector (g .vector) r) (v .at) code good ∙ ap only (q .takes f r₁ (v .at) code refl refl (v .code))))
+        (follows-passes t over (g .end) r₂ (v .moves) (λ x. v .within) (v .rest))))
+
+    pub follows-level :
+        (b : ℕ) (c : Coded) (end : ℕ) → getD t i 0 ≡ b → isKnown b ≡ true → CodeThere t (i + 1) c →
+        (ltb 0 (c .code) && eqb (r .variables .stb .code) (c .code)) ≡ true → Skips t (c .end) end →
+        Follows t i r end (withVariables (withLevel (r .variables) b) (at Body r))
+    follows-level b c end eb k there e s =
+        let some : 0 < c .code = ltb-true 0 (c .code) (and-l (ltb 0 (c .code)) (eqb (r .variables .stb .code) (c .code)) e) in
+        let same : r .variables .stb .code ≡ c .code
+        = eqb-true (r .variables .stb .code) (c .code) (and-r (ltb 0 (c .code)) (eqb (r .variables .stb .code) (c .code)) e) in
+        let code : c .code ≡ codeOf (wordFrom t (i + 1)) = there .code some in
+        follows-skip b eb (known-range b k) (c .end) end r _ (there .end some) s
+        (read-level r i (wordFrom t (i + 1)) good pl b k (has-code r (wordFrom t (i + 1)) Stb (omega arith) (same ∙ code)))
+
+    module _ (a : Timed) (eb : getD t i 0 ≡ 35) (there : TimeThere t (i + 1) a) (whole : a .whole ≡ true) where
+      is-time : isTime (35 ∷ wordFrom t (i + 1)) ≡ true
+      is-time = and-in (there .digits whole) (there .fits whole)
+
+      pub follows-time :
+          (end : ℕ) → QuietTime t (i + 1) (r .stamp .opened) (r .variables .stb .value) (r .stamp .up) (r .stamp .time) a →
+          Skips t (a .end) end →
+          Follows t i r end (withTime (a .time) (withUp (eqb (r .variables .stb .value .number) 1) r))
+      follows-time end q s =
+          follows-skip 35 eb (omega arith) (a .end) end r _ (there .end whole) s
+          (read-hash r i (wordFrom t (i + 1)) good pl
+          ∙ time-quiet r i (35 ∷ wordFrom t (i + 1)) (a .time) good is-time (there .time whole) (q .isOpen whole) (q .known whole)
+          (q .later whole) (q .quiet whole))
+
+      pub takes-command : Takes r (a .time) → readWith (takenAt r (a .time)) (strobeOf r) ≡ readWord r (wordAt i (wordFrom t i))
+      takes-command k =
+          sym
+          (ap (λ (w : List ℕ). readWord r (wordAt i w)) (word-first 35 eb (omega arith))
+          ∙ read-hash r i (wordFrom t (i + 1)) good pl
+          ∙ k .gives good i (35 ∷ wordFrom t (i + 1)) is-time (there .time whole))
+
+-- the same from a reader with other values, time and level
+module _ (t : List ℕ) (i : ℕ) (h : i < length t) (r : Reader) (pl : r .place ≡ Body) (good : r .fault .number ≡ 0)
+    (vs : Variables) (v : Vector) (time : ℕ) (up : Bool) where
+  in-body : (vs′ : Variables) (v′ : Vector) → at Body (changedTo r vs′ v′ time up) ≡ changedTo r vs′ v′ time up
+  in-body vs′ v′ = ap (λ (x : Place). at x (changedTo r vs′ v′ time up)) (sym pl)
+
+  pub quiet-vector :
+      (b : ℕ) (g : Given) (p : Placed) → getD t i 0 ≡ b → isBinary b ≡ true → CodedVector t (i + 1) g →
+      Places vs (g .code) (g .vector) p → p .found ≡ true →
+      Follows t i (changedTo r vs v time up) (g .end) (changedTo r (p .variables) (g .vector) time up)
+  quiet-vector b g p eb k c q f =
+      subst (λ (x : Reader). Follows t i (changedTo r vs v time up) (g .end) x) (in-body (p .variables) (g .vector))
+      (follows-vector t i h (changedTo r vs v time up) pl good b g p eb k c q f)
+
+  pub quiet-level :
+      (b : ℕ) (c : Coded) (end : ℕ) → getD t i 0 ≡ b → isKnown b ≡ true → CodeThere t (i + 1) c →
+      (ltb 0 (c .code) && eqb (vs .stb .code) (c .code)) ≡ true → Skips t (c .end) end →
+      Follows t i (changedTo r vs v time up) end (changedTo r (withLevel vs b) v time up)
+  quiet-level b c end eb k there e s =
+      subst (λ (x : Reader). Follows t i (changedTo r vs v time up) end x) (in-body (withLevel vs b) v)
+      (follows-level t i h (changedTo r vs v time up) pl good b c end eb k there e s)
+
+  pub quiet-time :
+      (a : Timed) (end : ℕ) → getD t i 0 ≡ 35 → QuietTime t (i + 1) (r .stamp .opened) (vs .stb .value) up time a → a .whole ≡ true →
+      Skips t (a .end) end →
+      Follows t i (changedTo r vs v time up) end (changedTo r vs v (a .time) (eqb (vs .stb .value .number) 1))
+  quiet-time a end eb q whole s =
+      let r′ = changedTo r vs v time up in
+      subst (λ (x : Bool). Follows t i r′ end (withStamp (stampWith x (a .time) (eqb (vs .stb .value .number) 1)) r′))
+      (sym (q .isOpen whole))
+      (follows-time t i h (changedTo r vs v time up) pl good a eb (q .there) whole end q s)

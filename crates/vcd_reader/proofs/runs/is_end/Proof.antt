@@ -1,0 +1,22 @@
+-- `vcd_reader::runs::is_end` meets its contract. Assumes nothing.
+use mathlib.Core.Path.{sym, _∙_}
+use borrow.Author.Needs.{needs}
+use Rattle.vcd_words.proofs.Bytes.{run-separator, run-end}
+use Rattle.vcd_reader.proofs.runs.is_end.Statement.{statement}
+use Rattle.vcd_reader.proofs.runs.is_end.Tie as tie
+
+shared-slice-read-is-separator : tie.Need-shared-slice-read-is-separator
+shared-slice-read-is-separator c = search needs
+
+is-separator-requires : tie.Need-is-separator-requires
+is-separator-requires c κs = search needs
+
+returns : tie.Need-returns
+returns c = λ e. run-separator _ _ (c .before .before .if1 .taken) (sym (c .is-separator .ensures) ∙ e)
+
+returns-2 : tie.Need-returns-2
+returns-2 c = λ e. run-end _ _ (c .if1 .left)
+
+pub is-end-spec : {M : Type 1} → statement M
+is-end-spec =
+    tie.close (tie.spec shared-slice-read-is-separator is-separator-requires returns returns-2)

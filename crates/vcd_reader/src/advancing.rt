@@ -1,0 +1,135 @@
+// A text read on from an offset, up to the next command.
+ghost use Prim.Native.Nat.{_<_};
+ghost use mathlib.Core.Path.{_≡_};
+ghost use mathlib.Core.Bool.{true};
+ghost use lib.ListN.{length};
+ghost use Rattle.recording.specs.declared.Place.the-variants.{Body};
+ghost use Rattle.recording.specs.Records.{noStrobe};
+ghost use Rattle.vcd_reader.specs.Advances.{advancedWith, Advances};
+ghost use Rattle.vcd_reader.specs.Changes.{takenAt, Takes};
+use crate::Advanced;
+use crate::changes;
+use crate::runs;
+use recording::Place;
+use recording::Reader;
+use recording::Strobe;
+use vcd_words::scanning;
+use vcd_words::stamps;
+use vcd_words::words;
+
+fn advanced_with(r: Reader, end: usize, s: Strobe, time: u64) -> Advanced
+    ensures { λ a. ⌜ a ≡ advancedWith r end s time ⌝ }
+{
+    Advanced {
+        reader: r,
+        end,
+        strobe: s,
+        time,
+    }
+}
+
+fn no_strobe() -> Strobe
+    ensures { λ s. ⌜ s ≡ noStrobe ⌝ }
+{
+    Strobe {
+        given: false,
+        number: 0,
+        target: 0,
+        level: 0,
+    }
+}
+
+// A separator, or any word.
+fn any_word(text: &[u8], i: usize, r: Reader) -> Advanced
+    requires { ⌜ i < length (now text) ⌝ }
+    ensures { λ a. ⌜ Advances (now (text .entry)) i r a ⌝ }
+{
+    if scanning::is_separator(text[i]) {
+        return advanced_with(r, i + 1, no_strobe(), 0);
+    }
+    let s = scanning::scan(text, i, scanning::nothing());
+    let a = words::word(r, i as u64, s.partial);
+    advanced_with(a.reader, s.end, a.strobe, r.stamp.time)
+}
+
+// ---- the word that gives a command
+
+// Whether a time gives a command and opens a stamp, with no fault.
+fn takes(r: Reader, time: u64) -> bool
+    ensures { λ b. ⌜ (b ≡ true → Takes r time) ⌝ }
+{
+    if !r.stamp.opened {
+        return false;
+    }
+    if !r.variables.stb.value.known {
+        return false;
+    }
+    if r.variables.stb.value.number != 1 {
+        return false;
+    }
+    if r.stamp.up {
+        return false;
+    }
+    if time <= r.stamp.time {
+        return false;
+    }
+    if 65535 <= r.taken {
+        return false;
+    }
+    stamps::is_readable(r)
+}
+
+fn taken_at(r: Reader, time: u64) -> Reader
+    requires { ⌜ r .taken < 65535 ⌝ }
+    ensures { λ s. ⌜ s ≡ takenAt r time ⌝ }
+{
+    let mut next = r;
+    next.stamp.opened = true;
+    next.stamp.time = time;
+    next.stamp.up = true;
+    next.taken = r.taken + 1;
+    next
+}
+
+// Changes and times, then the word that stops them.
+fn after_changes(text: &[u8], from: usize, r: Reader) -> Advanced
+    requires { ⌜ (from < length (now text)) × (r .place ≡ Body) × (r .fault .number ≡ 0) ⌝ }
+    ensures { λ a. ⌜ Advances (now (text .entry)) from r a ⌝ }
+{
+    let p = changes::quiet(text, from, r);
+    let i = p.end;
+    if text.len() <= i {
+        return advanced_with(p.reader, i, no_strobe(), 0);
+    }
+    if text[i] == 35 {
+        let t = runs::time_at(text, i + 1);
+        if t.whole {
+            if takes(p.reader, t.time) {
+                return advanced_with(
+                    taken_at(p.reader, t.time),
+                    t.end,
+                    stamps::strobe(p.reader),
+                    p.reader.stamp.time,
+                );
+            }
+        }
+    }
+    any_word(text, i, p.reader)
+}
+
+// The words from an offset on, up to one that gives a command, or one that is read by itself. A reader with a fault passes the rest.
+pub fn advance(text: &[u8], from: usize, r: Reader) -> Advanced
+    ensures { λ a. ⌜ Advances (now (text .entry)) from r a ⌝ }
+{
+    if text.len() <= from {
+        return advanced_with(r, from, no_strobe(), 0);
+    }
+    if r.fault.number != 0 {
+        return advanced_with(r, text.len(), no_strobe(), 0);
+    }
+    let place = r.place;
+    if let Place::Body = place {
+        return after_changes(text, from, r);
+    }
+    any_word(text, from, r)
+}

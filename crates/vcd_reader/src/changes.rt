@@ -1,0 +1,220 @@
+// Changes and times that give no command, in a place where a change may stand.
+ghost use mathlib.Core.Path.{_≡_};
+ghost use mathlib.Core.Bool.{true, not, _&&_, _||_};
+ghost use Rattle.recording.specs.Records.{variableWith};
+ghost use lib.ListN.{length};
+ghost use lib.Dec.{ltb, eqb};
+ghost use Rattle.recording.specs.declared.Place.the-variants.{Body};
+ghost use Rattle.vcd_reader.specs.Changes.{givenWith, knownVector, placedWith, passedWith, changedTo, withLevel, VectorThere, Places, QuietTime, Quiet};
+use crate::Given;
+use crate::Passed;
+use crate::Placed;
+use crate::Timed;
+use crate::runs;
+use recording::Reader;
+use recording::Value;
+use recording::Variable;
+use recording::Variables;
+use recording::Vector;
+use vcd_words::readers;
+use vcd_words::scanning;
+
+// ---- vectors
+
+fn given_with(end: usize, code: u32, v: Vector) -> Given
+    ensures { λ r. ⌜ r ≡ givenWith end code v ⌝ }
+{
+    Given {
+        end,
+        code,
+        vector: v,
+    }
+}
+
+fn known_vector(length: u8, number: u16) -> Vector
+    ensures { λ r. ⌜ r ≡ knownVector length number ⌝ }
+{
+    Vector {
+        length,
+        value: Value {
+            known: true,
+            number,
+        },
+    }
+}
+
+// After b or B, from an offset on: bits, all of them 0 or 1, and a code.
+fn vector_at(text: &[u8], from: usize) -> Given
+    ensures { λ r. ⌜ VectorThere (now (text .entry)) from r ⌝ }
+{
+    let bits = runs::ones(text, from);
+    let end = bits.end;
+    if !bits.whole {
+        return given_with(end, 0, known_vector(0, 0));
+    }
+    if end <= from {
+        return given_with(end, 0, known_vector(0, 0));
+    }
+    if 255 < end - from {
+        return given_with(end, 0, known_vector(0, 0));
+    }
+    let c = runs::code_at(text, runs::skip(text, end));
+    let v = known_vector((end - from) as u8, (bits.number % 65536) as u16);
+    given_with(runs::skip(text, c.end), c.code, v)
+}
+
+fn placed_with(found: bool, vs: Variables) -> Placed
+    ensures { λ r. ⌜ r ≡ placedWith found vs ⌝ }
+{
+    Placed {
+        found,
+        variables: vs,
+    }
+}
+
+fn with_value(v: Variable, given: Value) -> Variable
+    ensures { λ r. ⌜ r ≡ variableWith (v .code) (v .width) given ⌝ }
+{
+    let mut next = v;
+    next.value = given;
+    next
+}
+
+// The vector becomes the value of the variable with this code, if there is one and the vector isn't longer.
+fn placed(vs: Variables, code: u32, v: Vector) -> Placed
+    ensures { λ r. ⌜ Places vs code v r ⌝ }
+{
+    let mut next = vs;
+    if code == 0 {
+        return placed_with(false, vs);
+    }
+    if code == vs.cmd.code {
+        next.cmd = with_value(vs.cmd, v.value);
+        return placed_with(v.length <= vs.cmd.width, next);
+    }
+    if code == vs.core.code {
+        next.core = with_value(vs.core, v.value);
+        return placed_with(v.length <= vs.core.width, next);
+    }
+    if code == vs.arg.code {
+        next.arg = with_value(vs.arg, v.value);
+        return placed_with(v.length <= vs.arg.width, next);
+    }
+    if code == vs.prio.code {
+        next.prio = with_value(vs.prio, v.value);
+        return placed_with(v.length <= vs.prio.width, next);
+    }
+    placed_with(false, vs)
+}
+
+// ---- stb
+
+// The variable has this code.
+fn is_coded(v: Variable, code: u32) -> bool
+    ensures { λ r. ⌜ r ≡ (ltb 0 code && eqb (v .code) code) ⌝ }
+{
+    if 0 < code {
+        return v.code == code;
+    }
+    false
+}
+
+fn with_level(vs: Variables, b: u8) -> Variables
+    requires { ⌜ (eqb b 48 || eqb b 49) ≡ true ⌝ }
+    ensures { λ r. ⌜ r ≡ withLevel vs b ⌝ }
+{
+    let mut next = vs;
+    next.stb = with_value(vs.stb, readers::value_with(true, (b - 48) as u16));
+    next
+}
+
+// ---- times
+
+// stb is 1, and wasn't at the end of the stamp before.
+fn rises(level: Value, up: bool) -> bool
+    ensures { λ r. ⌜ r ≡ (eqb (level .number) 1 && not up) ⌝ }
+{
+    if up {
+        return false;
+    }
+    level.number == 1
+}
+
+// A time, after #, at the end of an open stamp that gives no command: stb is 0 or 1, and doesn't rise.
+fn quiet_time(text: &[u8], from: usize, opened: bool, level: Value, up: bool, time: u64) -> Timed
+    ensures { λ a. ⌜ QuietTime (now (text .entry)) from opened level up time a ⌝ }
+{
+    if !opened {
+        return runs::timed_with(false, from, 0);
+    }
+    if !level.known {
+        return runs::timed_with(false, from, 0);
+    }
+    if rises(level, up) {
+        return runs::timed_with(false, from, 0);
+    }
+    let t = runs::time_at(text, from);
+    if t.time <= time {
+        return runs::timed_with(false, from, 0);
+    }
+    t
+}
+
+// ---- all of them
+
+// Whole changes and times that give no command, as far as they go. What stops them is left to what reads any word.
+pub fn quiet(text: &[u8], from: usize, r: Reader) -> Passed
+    requires { ⌜ (r .place ≡ Body) × (r .fault .number ≡ 0) ⌝ }
+    ensures { λ p. ⌜ Quiet (now (text .entry)) from r p ⌝ }
+{
+    let mut now = r.variables;
+    let mut last = r.pending.vector;
+    let mut time = r.stamp.time;
+    let mut up = r.stamp.up;
+    let mut i = runs::skip(text, from);
+    while i < text.len() {
+        let b = text[i];
+        if scanning::is_binary(b) {
+            let g = vector_at(text, i + 1);
+            let p = placed(now, g.code, g.vector);
+            if !p.found {
+                break;
+            }
+            now = p.variables;
+            last = g.vector;
+            i = g.end;
+        } else if runs::is_known(b) {
+            let c = runs::code_at(text, i + 1);
+            if !is_coded(now.stb, c.code) {
+                break;
+            }
+            now = with_level(now, b);
+            i = runs::skip(text, c.end);
+        } else if b == 35 {
+            let t = quiet_time(text, i + 1, r.stamp.opened, now.stb.value, up, time);
+            if !t.whole {
+                break;
+            }
+            up = now.stb.value.number == 1;
+            time = t.time;
+            i = runs::skip(text, t.end);
+        } else {
+            break;
+        }
+    }
+    changed(i, r, now, last, time, up)
+}
+
+// The reader with what changes and times give it.
+fn changed(end: usize, r: Reader, vs: Variables, v: Vector, time: u64, up: bool) -> Passed
+    ensures { λ p. ⌜ p ≡ passedWith end (changedTo r vs v time up) ⌝ }
+{
+    let mut pending = r.pending;
+    pending.vector = v;
+    let mut next = r;
+    next.variables = vs;
+    next.pending = pending;
+    next.stamp.time = time;
+    next.stamp.up = up;
+    Passed { end, reader: next }
+}

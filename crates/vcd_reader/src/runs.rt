@@ -1,0 +1,159 @@
+// Words that begin at an offset, each byte read once. Each answers for the usual word, and leaves the others to vcd_words.
+ghost use mathlib.Core.Path.{_≡_};
+ghost use mathlib.Core.List.{[]};
+ghost use mathlib.Core.Bool.{true, _||_};
+ghost use lib.ListN.{drop};
+ghost use lib.Dec.{eqb};
+ghost use Rattle.lists.specs.Numbers.{between};
+ghost use Rattle.vcd_words.specs.Partial.{run};
+ghost use Rattle.vcd_reader.specs.Runs.{bitsWith, codedWith, timedWith, Ones, CodeThere, TimeThere, Skips};
+use crate::Bits;
+use crate::Coded;
+use crate::Timed;
+use vcd_words::scanning;
+
+// Whether no byte of a word stands at an offset.
+fn is_end(text: &[u8], at: usize) -> bool
+    ensures { λ b. ⌜ (b ≡ true → run (drop at (now (text .entry))) ≡ []) ⌝ }
+{
+    if at < text.len() {
+        return scanning::is_separator(text[at]);
+    }
+    true
+}
+
+// The next byte that is no separator, or the end of the text.
+pub fn skip(text: &[u8], from: usize) -> usize
+    ensures { λ r. ⌜ Skips (now (text .entry)) from r ⌝ }
+{
+    let mut i = from;
+    while i < text.len() {
+        if !scanning::is_separator(text[i]) {
+            break;
+        }
+        i += 1;
+    }
+    i
+}
+
+// ---- bits
+
+// 0 or 1.
+pub fn is_known(b: u8) -> bool
+    ensures { λ r. ⌜ r ≡ (eqb b 48 || eqb b 49) ⌝ }
+{
+    if b == 48 {
+        return true;
+    }
+    b == 49
+}
+
+fn bits_with(whole: bool, end: usize, number: u64) -> Bits
+    ensures { λ r. ⌜ r ≡ bitsWith whole end number ⌝ }
+{
+    Bits { whole, end, number }
+}
+
+pub fn ones(text: &[u8], from: usize) -> Bits
+    ensures { λ r. ⌜ Ones (now (text .entry)) from r ⌝ }
+{
+    let mut number = 0u64;
+    let mut i = from;
+    while i < text.len() {
+        let b = text[i];
+        if !is_known(b) {
+            break;
+        }
+        number = scanning::with_bit(number, b);
+        i += 1;
+    }
+    bits_with(is_end(text, i), i, number)
+}
+
+// ---- codes
+
+fn is_printable(b: u8) -> bool
+    ensures { λ r. ⌜ r ≡ between 33 126 b ⌝ }
+{
+    if b < 33 {
+        return false;
+    }
+    b <= 126
+}
+
+fn coded_with(end: usize, code: u32) -> Coded
+    ensures { λ r. ⌜ r ≡ codedWith end code ⌝ }
+{
+    Coded { end, code }
+}
+
+// A code that four bytes spell is above 2^24, and takes no other.
+fn long_code(text: &[u8], from: usize) -> Coded
+    ensures { λ r. ⌜ CodeThere (now (text .entry)) from r ⌝ }
+{
+    let mut code = 0u32;
+    let mut i = from;
+    while i < text.len() {
+        let b = text[i];
+        if !is_printable(b) {
+            break;
+        }
+        if 16777216 <= code {
+            return coded_with(i, 0);
+        }
+        code = code * 256 + b as u32;
+        i += 1;
+    }
+    if is_end(text, i) {
+        return coded_with(i, code);
+    }
+    coded_with(i, 0)
+}
+
+// Most codes have one byte.
+pub fn code_at(text: &[u8], from: usize) -> Coded
+    ensures { λ r. ⌜ CodeThere (now (text .entry)) from r ⌝ }
+{
+    if text.len() <= from {
+        return coded_with(from, 0);
+    }
+    let b = text[from];
+    if !is_printable(b) {
+        return coded_with(from, 0);
+    }
+    if is_end(text, from + 1) {
+        return coded_with(from + 1, b as u32);
+    }
+    long_code(text, from)
+}
+
+// ---- times
+
+pub fn timed_with(whole: bool, end: usize, time: u64) -> Timed
+    ensures { λ r. ⌜ r ≡ timedWith whole end time ⌝ }
+{
+    Timed { whole, end, time }
+}
+
+// Times of up to 19 digits, so that each fits.
+pub fn time_at(text: &[u8], from: usize) -> Timed
+    ensures { λ r. ⌜ TimeThere (now (text .entry)) from r ⌝ }
+{
+    let mut time = 0u64;
+    let mut i = from;
+    while i < text.len() {
+        let b = text[i];
+        if !scanning::is_digit(b) {
+            break;
+        }
+        if 1000000000000000000 <= time {
+            return timed_with(false, i, 0);
+        }
+        time = time * 10 + (b - 48) as u64;
+        i += 1;
+    }
+    if i <= from {
+        return timed_with(false, i, 0);
+    }
+    timed_with(is_end(text, i), i, time)
+}

@@ -1,0 +1,21 @@
+//! The line that is printed for a command.
+
+use std::fmt::Display;
+use std::io::{self, Write};
+
+use psic::{Answer, Command, Controller, Refusal};
+
+/// Puts a command to the controller, and prints the command as it is to be shown, what it answers and the state after it.
+pub fn answer(
+    controller: &mut Controller,
+    command: Command,
+    shown: impl Display,
+    out: &mut impl Write,
+) -> io::Result<Result<Answer, Refusal>> {
+    let answer = controller.execute(command);
+    match answer {
+        Ok(answer) => writeln!(out, "{shown}: {answer}, {controller}")?,
+        Err(refusal) => writeln!(out, "{shown}: {refusal}, 0 cycles, {controller}")?,
+    }
+    Ok(answer)
+}
