@@ -108,7 +108,7 @@ module _ {s : Controller} {i k : ℕ} (a : Arbitrated s i k) (first : FilledFirs
 
 -- ---- one cycle
 
-unfilled-frugal : (s : Controller) → AllDirty s → Spared s
+pub unfilled-frugal : (s : Controller) → AllDirty s → Spared s
 unfilled-frugal s all clean j k h h′ u v = clash (all j h u) (clean j h)
 
 -- what a run of cycles keeps
