@@ -1,13 +1,11 @@
--- When a source is a candidate, read off its flags one at a time, and its rank; a core's key, by its box. Assumes nothing.
-use Prim.Native.Nat.{_+_, _*_}
+-- When a source is a candidate, read off its flags one at a time, and its rank. Assumes nothing.
+use Prim.Native.Nat.{_+_}
 use mathlib.Core.Path.{_≡_}
 use mathlib.Core.Bool.{true, false, not, and-false, and-true}
 use native.Mathlib.Numerals.{add-one}
-use native.Mathlib.Omega.{arith}
 use Rattle.model.specs.declared.Source.{Source}
-use Rattle.model.specs.declared.Core.{Core}
 use Rattle.model.specs.Requests.{waiting, candidate}
-use Rattle.model.specs.Arbitration.{rank, coreKey}
+use Rattle.model.specs.Arbitration.{rank}
 use Rattle.lists.proofs.Bools.{and-l}
 
 module _ (r : Source) where
@@ -28,10 +26,3 @@ module _ (r : Source) where
 
   pub rank-none : candidate r ≡ false → 0 ≡ rank r
   rank-none e = simp e
-
-module _ (c : Core) where
-  pub key-filled : c .message .filled ≡ true → 2 * c .message .priority ≡ coreKey c
-  key-filled f = rw f (omega arith)
-
-  pub key-empty : c .message .filled ≡ false → 2 * c .configured + 1 ≡ coreKey c
-  key-empty f = rw f (omega arith)

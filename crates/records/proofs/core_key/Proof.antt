@@ -1,8 +1,19 @@
 -- `records::core_key` meets its contract: the test says which case of the key holds. Assumes nothing.
 use borrow.Author.Needs.{needs}
-use Rattle.model.proofs.Candidates.{key-filled, key-empty}
+use Prim.Native.Nat.{_+_, _*_}
+use mathlib.Core.Path.{_≡_}
+use mathlib.Core.Bool.{true, false}
+use native.Mathlib.Omega.{arith}
+use Rattle.model.specs.declared.Core.{Core}
+use Rattle.model.specs.Arbitration.{coreKey}
 use Rattle.records.proofs.core_key.Statement.{statement}
 use Rattle.records.proofs.core_key.Tie as tie
+
+key-filled : (c : Core) → c .message .filled ≡ true → 2 * c .message .priority ≡ coreKey c
+key-filled c f = rw f (omega arith)
+
+key-empty : (c : Core) → c .message .filled ≡ false → 2 * c .configured + 1 ≡ coreKey c
+key-empty c f = rw f (omega arith)
 
 cast-result : tie.Need-cast-result
 cast-result c = search needs
