@@ -216,10 +216,10 @@ pub fn current_priority(c: Core) -> u16
 pub fn core_key(c: Core) -> u32
     ensures { λ k. ⌜ k ≡ coreKey c ⌝ }
 {
-    if c.message.filled {
-        return 2 * c.message.priority as u32;
+    if !c.message.filled {
+        return 2 * c.configured as u32 + 1;
     }
-    2 * c.configured as u32 + 1
+    2 * c.message.priority as u32
 }
 
 // Pending, not delivered, not masked.
