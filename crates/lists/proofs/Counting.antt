@@ -2,7 +2,7 @@
 --   total n f        f 0 + .. + f (n - 1)
 --   total-le         a sum is at most another if each number of it is
 --   total-lt         and below it if some number is
---   counted-total    how many numbers a test holds of, as a sum
+--   tally-total    how many numbers a test holds of, as a sum
 --   reach t x        1 if x is at or above t, else 0
 --   reached m t f    how many of f 0, .., f (m - 1) are at or above t
 --   reached-le       at most m; `reached-all`: m, if all are
@@ -14,7 +14,7 @@ use native.Mathlib.Omega.{arith}
 use native.Mathlib.Decide.{decLe, ℕ-discrete}
 use lib.Dec.{leb}
 use borrow.Author.Tests.{le-leb, lt-leb}
-use Rattle.lists.specs.Walks.{counted}
+use Rattle.lists.specs.Walks.{tally}
 
 -- ---- sums
 
@@ -44,10 +44,10 @@ module _ (f g : ℕ → ℕ) where
           omega (arith, total-le j (λ i u. h i (omega arith)))
       go (no e) rest = omega (arith, rest (omega arith) q, h j (omega arith))
 
-pub counted-total : (n : ℕ) (f : ℕ → Bool) → counted n f ≡ total n (λ k. cond (f k) 1 0)
-unfolding total counted
-counted-total zero f = refl
-counted-total (suc k) f = omega (arith, counted-total k f)
+pub tally-total : (n : ℕ) (f : ℕ → Bool) → tally n f ≡ total n (λ k. cond (f k) 1 0)
+unfolding total tally
+tally-total zero f = refl
+tally-total (suc k) f = omega (arith, tally-total k f)
 
 -- ---- one number
 

@@ -15,7 +15,7 @@ use mathlib.Core.List.{List, [], _∷_, _++_}
 use mathlib.Core.Bool.{Bool, true, false, not, _&&_, _||_, cond}
 use lib.Dec.{ltb, eqb}
 use Rattle.lists.specs.Rows.{gather, row, write}
-use Rattle.lists.specs.Walks.{counted}
+use Rattle.lists.specs.Walks.{tally}
 use Rattle.model.specs.declared.Controller.{Controller}
 use Rattle.model.specs.declared.Answer.{Answer}
 use Rattle.model.specs.declared.Command.{Command}
@@ -161,7 +161,7 @@ currentPriorities m s = row m (λ k. currentPriority (coreAt s k))
 
 -- How many requests a placement gives to cores 0 to m - 1, and how many of their boxes are filled.
 abbrev pub placedBy : ℕ → (ℕ → ℕ) → ℕ
-placedBy m P = counted m (λ k. ltb 0 (P k))
+placedBy m P = tally m (λ k. ltb 0 (P k))
 
 abbrev pub filledBoxes : ℕ → Controller → ℕ
-filledBoxes m s = counted m (λ k. (coreAt s k) .message .filled)
+filledBoxes m s = tally m (λ k. (coreAt s k) .message .filled)

@@ -15,7 +15,7 @@ use Rattle.lists.proofs.Bools.{clash}
 use Rattle.model.specs.Ledger.{paired, Ledger, opening, post, postAccepted, ledger, competes, collection, given, inBoxes, currentPriorities, requestPriority, Placement, placedBy, filledBoxes, entriesBy}
 use Rattle.lists.specs.Sorting.{insertDown, sortDown}
 use Rattle.lists.specs.Rows.{row}
-use Rattle.lists.specs.Walks.{counted}
+use Rattle.lists.specs.Walks.{tally}
 use Rattle.model.specs.Behaviours.{answersBy, Behaviour, runBy}
 use Rattle.model.specs.declared.Controller.{Controller}
 use Rattle.model.specs.declared.Command.{Command}
@@ -30,7 +30,7 @@ use Rattle.model.proofs.Examples.{computed}
 use Rattle.theorems.specs.Dummies.{changeNothing, flagsOnly, hollow, growing, settleByNumber, tieToLowest}
 
 unfoldable pub booked : Behaviour → Controller → List Command → Controller
-unfolding computed make ledger post postAccepted competes collection insertDown sortDown runBy answersBy paired counted
+unfolding computed make ledger post postAccepted competes collection insertDown sortDown runBy answersBy paired tally
 booked = runBy
 
 module _ (x : Behaviour) (n m : ℕ) (sizes : InRange n m) (cs : List Command) where

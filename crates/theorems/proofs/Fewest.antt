@@ -14,7 +14,7 @@ use Rattle.model.specs.Ledger.{Ledger, given, currentPriorities, requestPriorit
 use Rattle.lists.specs.Rows.{row}
 use Rattle.lists.specs.Sorting.{sortDown}
 use Rattle.lists.proofs.Bools.{Flag, on, off, flag}
-use Rattle.lists.proofs.Counting.{total, total-le, total-add, counted-total, reach, reach-up, reach-under, Reach, up, under, reach-cases}
+use Rattle.lists.proofs.Counting.{total, total-le, total-add, tally-total, reach, reach-up, reach-under, Reach, up, under, reach-cases}
 use Rattle.lists.proofs.Counts.{count, count-row}
 use Rattle.lists.proofs.Sorting.{sorted-count}
 use Rattle.well_formed.specs.Survey.{greatest, coveredPriority}
@@ -91,4 +91,4 @@ module _ (b : Ledger) (s : Controller) (w : WellFormed s) (match : Matches (s .n
         let level = sorted-count (row m (given b P)) (currentPriorities m s) same bar in
         let left : total m (λ k. reach bar (current k)) ≡ count bar (currentPriorities m s) = sym (count-row bar m current) in
         let right : total m (λ k. reach bar (given b P k)) ≡ count bar (row m (given b P)) = sym (count-row bar m (given b P)) in
-        rw (counted-total, counted-total) (omega (arith, low, high, level, left, right, total-add m boxes cores, total-add m requests cores))
+        rw (tally-total, tally-total) (omega (arith, low, high, level, left, right, total-add m boxes cores, total-add m requests cores))
