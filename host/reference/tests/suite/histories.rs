@@ -52,9 +52,22 @@ impl Run {
 
     /// The same with one source still masked; 0 means none.
     pub fn table_but_masked(masked: u16) -> Run {
-        let mut run = Run {
-            controller: Controller::reset(32, 2),
-        };
+        Run::unmasked(Controller::reset(32, 2), masked)
+    }
+
+    /// The table's sources on cores set to these priorities.
+    pub fn on_cores(priorities: &[u16]) -> Run {
+        let fresh = Controller::reset(32, priorities.len() as u16);
+        let mut run = Run::unmasked(fresh, 0);
+        for (core, &priority) in (0..).zip(priorities) {
+            run.accept(set_core(core, priority));
+        }
+        run
+    }
+
+    /// A fresh controller of 32 sources, set as the table has them.
+    fn unmasked(controller: Controller, masked: u16) -> Run {
+        let mut run = Run { controller };
         for id in 1..=32 {
             run.accept(set_source(id, id));
             if id != masked {
@@ -75,7 +88,7 @@ impl Run {
     }
 
     /// The command is accepted with id 0, these cycles and these current priorities.
-    pub fn settles(&mut self, command: Command, cycles: u16, current: [u16; 2]) {
+    pub fn settles<const M: usize>(&mut self, command: Command, cycles: u16, current: [u16; M]) {
         let answer = self.accept(command);
         assert_eq!((answer.id, answer.cycles), (0, cycles), "{command:?}");
         assert_eq!(self.controller.current_priorities(), current, "{command:?}");
