@@ -4,10 +4,10 @@ use psic_reference::compare::{Call, Comparison, Difference};
 use psic_reference::generate::{self, History, Mix};
 use psic_reference::model::{Model, Reference};
 use psic_reference::random::run_seeds;
-use psic_reference::well_formed::Clause;
 
 use crate::faulty::{Fault, Faulty, Field};
 use crate::histories::{set_core, trigger, unmask};
+use crate::well_formed::clauses_that_fail_alone;
 
 /// The first difference from the reference model within so many rounds.
 fn first_difference<M: Model>(model: &M, rounds: usize) -> Option<Difference> {
@@ -38,7 +38,7 @@ fn every_fault_is_found() {
 
 #[test]
 fn every_forgotten_clause_is_found() {
-    for clause in Clause::ALL {
+    for clause in clauses_that_fail_alone() {
         let fault = Fault::Forgets(clause);
         let found = first_difference(&Faulty { fault }, 60);
         assert!(found.is_some(), "{fault:?}");
