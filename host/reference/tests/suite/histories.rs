@@ -132,6 +132,21 @@ pub fn cycles_of(controller: &Controller, command: Command) -> (u16, u16) {
     (retractions, deliveries)
 }
 
+/// The states from which a command that isn't refused delivers, one for each delivery.
+pub fn deliveries_of(controller: &Controller, command: Command) -> Vec<Controller> {
+    let mut controller = controller.clone();
+    reference::apply(&mut controller, command);
+    let mut delivering = Vec::new();
+    loop {
+        let before = controller.clone();
+        match reference::settle_cycle(&mut controller) {
+            Some(Cycle::Retraction) => {}
+            Some(Cycle::Delivery) => delivering.push(before),
+            None => return delivering,
+        }
+    }
+}
+
 /// One command of a history, with the states around it and the ledger after it.
 pub struct Step<'a> {
     pub before: &'a Controller,
@@ -162,13 +177,13 @@ pub fn for_each_step(history: &History, mut visit: impl FnMut(usize, Step)) {
     }
 }
 
-/// Random histories of any size, in both mixes.
+/// Random histories of any size, in every mix.
 pub fn random_histories(seed: u64, count: usize, length: usize) -> Vec<History> {
     let mut random = Random::new(seed);
     (0..count)
         .map(|index| {
             let (n, m) = generate::sizes(&mut random);
-            let mix = [Mix::Even, Mix::Busy][index % 2];
+            let mix = Mix::ALL[index % Mix::ALL.len()];
             generate::history(random.bits(), n, m, length, mix)
         })
         .collect()
