@@ -6,7 +6,7 @@ use psic_reference::model::{Model, Reference};
 use psic_reference::random::run_seeds;
 
 use crate::faulty::{Fault, Faulty, Field};
-use crate::histories::{set_core, set_source, trigger, unmask};
+use crate::histories::{run_of_request_2, set_core, trigger, unmask};
 use crate::well_formed::clauses_that_fail_alone;
 
 /// The first difference from the reference model within so many rounds.
@@ -79,21 +79,6 @@ fn every_wrong_clause_is_found() {
         assert_ne!(refused[0], refused[1], "{fault:?}");
         let too_strict = fault == Fault::ClauseOfTheLeastCurrent;
         assert_eq!(refused[1], too_strict, "{fault:?}");
-    }
-}
-
-/// The run of request 2/14: source 3 at 3 and source 9 at 9, on cores at 3 and 1.
-fn run_of_request_2() -> History {
-    let mut commands = Vec::new();
-    for id in [3, 9] {
-        commands.extend([set_source(id, id), unmask(id)]);
-    }
-    commands.extend([set_core(0, 3), set_core(1, 1), trigger(3), trigger(9)]);
-    History {
-        seed: 0,
-        n: 32,
-        m: 2,
-        commands,
     }
 }
 

@@ -177,6 +177,21 @@ pub fn for_each_step(history: &History, mut visit: impl FnMut(usize, Step)) {
     }
 }
 
+/// The run of request 2/14: source 3 at 3 and source 9 at 9, on cores at 3 and 1.
+pub fn run_of_request_2() -> History {
+    let mut commands = Vec::new();
+    for id in [3, 9] {
+        commands.extend([set_source(id, id), unmask(id)]);
+    }
+    commands.extend([set_core(0, 3), set_core(1, 1), trigger(3), trigger(9)]);
+    History {
+        seed: 0,
+        n: 32,
+        m: 2,
+        commands,
+    }
+}
+
 /// Random histories of any size, in every mix.
 pub fn random_histories(seed: u64, count: usize, length: usize) -> Vec<History> {
     let mut random = Random::new(seed);
