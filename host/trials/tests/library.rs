@@ -15,6 +15,7 @@ use psic_reference::random::{run_seed, run_seeds, Random};
 use psic_reference::records::{Command, Controller, SourceId};
 use psic_reference::reference;
 use psic_reference::well_formed::well_formed;
+use psic_trials::fast::Fast;
 use psic_trials::library::{bytes_of, controller_of, encoded, run_list, Library};
 use psic_trials::wrapper::{typed, Wrapper};
 
@@ -46,6 +47,14 @@ fn the_typed_wrapper_agrees_with_the_reference() {
     }
 }
 
+/// So that what the library's speed is compared with does the same work.
+#[test]
+fn the_fast_model_agrees_with_the_reference() {
+    if let Some(difference) = first_difference(&Fast, 200, 500) {
+        panic!("{difference}");
+    }
+}
+
 /// What is compared is the library's own answer, of each call, by both ways to it.
 #[test]
 fn every_slip_of_the_library_is_found() {
@@ -57,16 +66,18 @@ fn every_slip_of_the_library_is_found() {
     }
 }
 
-/// Demand 3, on the states that the library itself hands back.
+/// Demand 3 and the count of boxes, on the states that the library itself hands back.
 #[test]
-fn the_library_keeps_demand_3() {
+fn the_library_keeps_demand_3_and_fills_the_fewest_boxes() {
     let mut random = Random::new(run_seed());
-    for _ in 0..20 {
-        let history = generate::history(random.bits(), 3, 2, 300, Mix::Busy);
-        assert_eq!(first_breach(&Library, &history, true), None);
+    for mix in [Mix::Busy, Mix::Tied] {
+        for _ in 0..20 {
+            let history = generate::history(random.bits(), 3, 2, 300, mix);
+            assert_eq!(first_breach(&Library, &history, true), None);
+        }
     }
     for (n, m) in [(1, 1), (4, 3), (32, 2), (100, 7), (128, 4), (128, 32)] {
-        for mix in [Mix::Even, Mix::Busy] {
+        for mix in Mix::ALL {
             let history = generate::history(random.bits(), n, m, 2000, mix);
             assert_eq!(first_breach(&Library, &history, false), None, "({n}, {m})");
         }
