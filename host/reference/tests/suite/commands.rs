@@ -51,7 +51,8 @@ fn every_command_keeps_any_sound_state_sound() {
     let mut random = Random::new(run_seed());
     for _ in 0..60 {
         let (n, m) = generate::sizes(&mut random);
-        let history = generate::history(random.bits(), n, m, 200, Mix::Busy);
+        let mix = random.pick(&[Mix::Busy, Mix::Tied]);
+        let history = generate::history(random.bits(), n, m, 200, mix);
         let mut sound = generate::final_state(&history);
         for _ in 0..200 {
             let away = damage::one_field_away(&mut random, &sound);
@@ -128,8 +129,9 @@ fn tie_between_candidates_falls_to_the_lowest_id() {
     assert_eq!(run.boxes(), [0, 7]);
 }
 
+/// With no filled box among them.
 #[test]
-fn tie_between_empty_boxes_falls_to_the_lowest_number() {
+fn tie_between_cores_falls_to_the_lowest_number() {
     Run::on_cores(&[2, 2]).settles(trigger(4), 1, [4, 2]);
     Run::on_cores(&[9, 2, 2, 2]).settles(trigger(4), 1, [9, 4, 2, 2]);
 }
