@@ -254,19 +254,12 @@ fn each_edit_of_a_sound_state_is_refused_by_1() {
 fn with_cores(cores: &[(u16, u16)]) -> Controller {
     let mut controller = Controller::reset(32, cores.len() as u16);
     for (number, &(configured, priority)) in cores.iter().enumerate() {
-        controller.cores[number].configured = configured;
-        if priority > 0 {
-            let id = number as u16 + 1;
-            controller.cores[number].message = MessageBox {
-                filled: true,
-                dirty: false,
-                id,
-                priority,
-            };
-            let source = &mut controller.sources[number];
-            (source.pending, source.delivered) = (true, true);
-            source.request = priority;
-        }
+        let source = &mut controller.sources[number];
+        let filled = priority > 0;
+        (source.pending, source.delivered) = (filled, filled);
+        source.request = priority;
+        let id = if filled { number as u16 + 1 } else { 0 };
+        set_up(&mut controller, number, configured, id);
     }
     controller
 }
@@ -422,9 +415,30 @@ const RULED_OUT_BY_REQUEST_2: usize = 2 * 2 * 4 * 4;
 #[test]
 fn every_sound_state_of_two_sources_and_two_cores_stays_sound() {
     let commands = alphabet(2, 2, &[1, 2], &[0, 1, 2]);
-    let sources = sources(&[1, 2], &[0, 1, 2]);
     let mut shapes = HashSet::new();
     let mut ruled_out = 0;
+    for_every_state_of_two_sources_and_two_cores(|boxes, controller| {
+        if !well_formed(&controller) {
+            let alone = [Clause::ConfiguredUnderBoxBelowBoxes];
+            ruled_out += usize::from(violated(&controller) == alone);
+            return;
+        }
+        shapes.insert(boxes);
+        for &command in &commands {
+            let mut after = controller.clone();
+            execute(&mut after, command);
+            assert!(well_formed(&after), "{command:?} on {controller:?}");
+        }
+    });
+    // Every way of filling two boxes from two sources, but one source in both.
+    assert_eq!(shapes, HashSet::from([0, 1, 2, 3, 5, 6, 7]));
+    assert_eq!(ruled_out, RULED_OUT_BY_REQUEST_2);
+}
+
+/// Every state with priorities up to 2 whose boxes have their requests' priorities and aren't dirty,
+/// with a number for the two ids in the boxes.
+fn for_every_state_of_two_sources_and_two_cores(mut visit: impl FnMut(u16, Controller)) {
+    let sources = sources(&[1, 2], &[0, 1, 2]);
     for first in &sources {
         for second in &sources {
             for boxes in 0..9 {
@@ -432,38 +446,27 @@ fn every_sound_state_of_two_sources_and_two_cores_stays_sound() {
                     let mut controller = Controller::reset(2, 2);
                     controller.sources[0] = *first;
                     controller.sources[1] = *second;
-                    for (core, id, priority) in [
-                        (0, boxes % 3, configured % 3),
-                        (1, boxes / 3, configured / 3),
-                    ] {
-                        controller.cores[core].configured = priority;
-                        if id > 0 {
-                            controller.cores[core].message = MessageBox {
-                                filled: true,
-                                dirty: false,
-                                id,
-                                priority: controller.sources[usize::from(id) - 1].request,
-                            };
-                        }
-                    }
-                    if !well_formed(&controller) {
-                        let alone = [Clause::ConfiguredUnderBoxBelowBoxes];
-                        ruled_out += usize::from(violated(&controller) == alone);
-                        continue;
-                    }
-                    shapes.insert(boxes);
-                    for &command in &commands {
-                        let mut after = controller.clone();
-                        execute(&mut after, command);
-                        assert!(well_formed(&after), "{command:?} on {controller:?}");
-                    }
+                    set_up(&mut controller, 0, configured % 3, boxes % 3);
+                    set_up(&mut controller, 1, configured / 3, boxes / 3);
+                    visit(boxes, controller);
                 }
             }
         }
     }
-    // Every way of filling two boxes from two sources, but one source in both.
-    assert_eq!(shapes, HashSet::from([0, 1, 2, 3, 5, 6, 7]));
-    assert_eq!(ruled_out, RULED_OUT_BY_REQUEST_2);
+}
+
+/// Sets a core's configured priority and puts the request of this source into its box; 0 leaves it
+/// empty.
+fn set_up(controller: &mut Controller, core: usize, configured: u16, id: u16) {
+    controller.cores[core].configured = configured;
+    if id > 0 {
+        controller.cores[core].message = MessageBox {
+            filled: true,
+            dirty: false,
+            id,
+            priority: controller.sources[usize::from(id) - 1].request,
+        };
+    }
 }
 
 /// Every source record with these configured and request priorities.
