@@ -157,44 +157,49 @@ impl Controller {
             return false;
         }
         let top = top_priority(self.n);
+        let Some(lowest) = self.lowest(n, m, top) else {
+            return false;
+        };
+        self.cores[m..]
+            .iter()
+            .all(|c| c.configured == 0 && c.message.is_empty())
+            && self.sources[..n]
+                .iter()
+                .all(|r| r.in_range(top) && !(r.candidate() && r.priority > lowest))
+            && self.sources[n..].iter().all(|r| r.is_reset())
+    }
+    /// The least current priority, if all clauses on cores and boxes hold.
+    #[inline(always)]
+    fn lowest(&self, n: usize, m: usize, top: u16) -> Option<u16> {
         let mut seen = [false; 128];
         // Of filled boxes the least priority and the greatest covered one; of cores without a filled box the least priority.
         let (mut lowest_box, mut covered) = (u16::MAX, 0);
         let mut lowest_free = u16::MAX;
         for c in &self.cores[..m] {
             if c.configured > top {
-                return false;
+                return None;
             }
             if c.message.filled {
                 let id = c.message.source as usize;
                 if id == 0 || id > n || seen[id - 1] {
-                    return false;
+                    return None;
                 }
                 seen[id - 1] = true;
                 let r = &self.sources[id - 1];
-                if c.message.dirty || !r.pending || !r.delivered || r.priority != c.message.priority
-                {
-                    return false;
+                let named = r.pending && r.delivered && r.priority == c.message.priority;
+                if c.message.dirty || !named {
+                    return None;
                 }
                 covered = covered.max(c.configured);
                 lowest_box = lowest_box.min(c.message.priority);
             } else if c.message.is_empty() {
                 lowest_free = lowest_free.min(c.configured);
             } else {
-                return false;
+                return None;
             }
         }
         // A box is above its own core's priority, since it is above every covered one.
-        let lowest = lowest_box.min(lowest_free);
-        covered < lowest_box
-            && covered <= lowest_free
-            && self.cores[m..]
-                .iter()
-                .all(|c| c.configured == 0 && c.message.is_empty())
-            && self.sources[..n]
-                .iter()
-                .all(|r| r.in_range(top) && !(r.candidate() && r.priority > lowest))
-            && self.sources[n..].iter().all(|r| r.is_reset())
+        (covered < lowest_box && covered <= lowest_free).then(|| lowest_box.min(lowest_free))
     }
     fn boxed(&self, id: u16) -> bool {
         self.cores[..self.m as usize]
