@@ -76,9 +76,8 @@ fn every_wrong_clause_is_found() {
         let found = first_difference(&Faulty { fault }, 60);
         let Difference { left, right, .. } = found.unwrap_or_else(|| panic!("{fault:?}"));
         let refused = [left.1.number == 1, right.1.number == 1];
-        assert_ne!(refused[0], refused[1], "{fault:?}");
-        let too_strict = fault == Fault::ClauseOfTheLeastCurrent;
-        assert_eq!(refused[1], too_strict, "{fault:?}");
+        let too_strict = fault.is_too_strict();
+        assert_eq!(refused, [!too_strict, too_strict], "{fault:?}");
     }
 }
 

@@ -157,6 +157,11 @@ impl Fault {
         Fault::ClauseOfBoxesBefore,
     ];
 
+    /// Of the wrong clauses one refuses sound states; the others take broken ones.
+    pub fn is_too_strict(self) -> bool {
+        self == Fault::ClauseOfTheLeastCurrent
+    }
+
     /// All faults but the ties, the clauses, the forgotten ones and the written fields.
     pub const ALL: [Fault; 25] = [
         Fault::AtLeast,
