@@ -1,7 +1,7 @@
 -- Keys decide as the records that they are read off. Assumes nothing.
 --   tree-cong, walk-cong    the tree and the walk look only at indices of their range: orders that agree there have one winner
 --   highest-by-keys         keys that are the sources' ranks: their highest is the highest source
---   least-by-keys           numbers that are the cores' current priorities: their least is the least core
+--   least-by-keys           numbers that are the cores' keys: their least is the least core
 use Prim.Native.Nat.{ℕ, zero, suc, _+_, _/_, _<_, _≤_}
 use mathlib.Core.Path.{_≡_, refl, ap₂, _∙_}
 use mathlib.Core.List.{List}
@@ -13,9 +13,8 @@ use Rattle.model.specs.declared.Source.{Source}
 use Rattle.model.specs.declared.Core.{Core}
 use Rattle.lists.specs.Rows.{FilledTo}
 use Rattle.model.specs.Records.{noCore}
-use Rattle.model.specs.Requests.{currentPriority}
 use Rattle.lists.specs.Walks.{winner, walk, leftHalf, tree}
-use Rattle.model.specs.Arbitration.{higher, highest, lower, least}
+use Rattle.model.specs.Arbitration.{higher, highest, coreKey, lower, least}
 use Rattle.arbitration.specs.Keys.{keyAbove, keyBelow, HighestKey, RanksOf}
 
 -- ---- orders that agree inside the range
@@ -99,11 +98,11 @@ highest-by-keys l n ks same r e =
     e n (omega arith) ∙
     tree-cong (keyAbove ks) (higher l) n 0 n (λ i j h g. ap₂ ltb (same j (omega arith)) (same i (omega arith)))
 
--- cs holds the current priority of each of the first m cores
-abbrev pub CurrentsOf : List Core → ℕ → List ℕ → Type 0
-CurrentsOf l m cs = FilledTo currentPriority noCore l m cs
+-- cs holds the key of each of the first m cores
+abbrev pub CoreKeysOf : List Core → ℕ → List ℕ → Type 0
+CoreKeysOf l m cs = FilledTo coreKey noCore l m cs
 
-pub least-by-keys : (l : List Core) (m : ℕ) (cs : List ℕ) → CurrentsOf l m cs → walk (keyBelow cs) m ≡ least l m
+pub least-by-keys : (l : List Core) (m : ℕ) (cs : List ℕ) → CoreKeysOf l m cs → walk (keyBelow cs) m ≡ least l m
 unfolding least
 least-by-keys l m cs same =
     walk-cong (keyBelow cs) (lower l) m (λ i j h g. ap₂ ltb (same i h) (same j g))

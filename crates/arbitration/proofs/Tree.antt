@@ -1,9 +1,7 @@
--- The highest candidate by the comparator tree, and the least core: what they find. Assumes nothing.
+-- The highest candidate by the comparator tree: what it finds. Assumes nothing.
 --   tree-is-walk, tree-finds-first     the tree agrees with the plain walk, and finds the first highest source
 --   highest-below, highest-ge          it is one of the n sources, and any candidate is at most a candidate there
 --   highest-id-exact                   its id, 0 exactly when there is no candidate
---   least-is-first                     the least core is the first of least current priority
---   least-below, least-le              it is one of the m cores, and none has a lower current priority
 use Prim.Native.Nat.{ℕ, suc, _<_, _≤_}
 use mathlib.Core.Path.{_≡_, subst}
 use mathlib.Core.List.{List}
@@ -12,33 +10,13 @@ use native.Mathlib.Omega.{arith}
 use lib.ListN.{getD}
 use borrow.Author.Tests.{ltb-true, ltb-false}
 use Rattle.model.specs.declared.Source.{Source}
-use Rattle.model.specs.declared.Core.{Core}
-use Rattle.model.specs.Records.{noSource, noCore}
-use Rattle.model.specs.Requests.{currentPriority, candidate}
-use Rattle.model.specs.Arbitration.{rank, higher, highest, highestByWalk, highestId, lower, least}
-use Rattle.model.specs.Statements.{TreeIsWalk, TreeFindsFirst, LeastIsFirst, HighestIdExact}
+use Rattle.model.specs.Records.{noSource}
+use Rattle.model.specs.Requests.{candidate}
+use Rattle.model.specs.Arbitration.{rank, higher, highest, highestByWalk, highestId}
+use Rattle.model.specs.Statements.{TreeIsWalk, TreeFindsFirst, HighestIdExact}
 use Rattle.lists.proofs.Bools.{clash, refuted, confirmed, Flag, on, off, flag}
 use Rattle.model.proofs.Candidates.{rank-candidate, rank-none}
-use Rattle.lists.proofs.Winner.{WeakOrder, by-key, converse, FirstIn, first-of, none-above, tree-first, walk-first, tree-walk}
-
--- ---- the least core
-
-lower-order : (l : List Core) → WeakOrder (lower l)
-lower-order l = converse (by-key (λ (k : ℕ). currentPriority (getD l k noCore)))
-
-least-first : (l : List Core) (m : ℕ) → 1 ≤ m → FirstIn (lower l) 0 m (least l m)
-unfolding least
-least-first l m h = walk-first (lower l) (lower-order l) m h
-
-pub least-is-first : LeastIsFirst
-least-is-first l m h = first-of (least-first l m h)
-
-pub least-below : (l : List Core) (m : ℕ) → 1 ≤ m → least l m < m
-least-below l m h = least-is-first l m h .inside
-
-pub least-le : (l : List Core) (m k : ℕ) → k < m → currentPriority (getD l (least l m) noCore) ≤ currentPriority (getD l k noCore)
-least-le l m k h =
-    ltb-false _ _ (none-above (lower l) (lower-order l) 0 m (least l m) (least-first l m (omega arith)) k (omega arith) (omega arith))
+use Rattle.lists.proofs.Winner.{WeakOrder, by-key, FirstIn, first-of, none-above, tree-first, tree-walk}
 
 -- ---- the highest candidate
 

@@ -33,15 +33,15 @@ pub fn highest(keys: &[u32; SOURCES], lo: usize, len: usize) -> usize
     }
 }
 
-// The index of the first least of the first m numbers; 0 for none.
-pub fn least(currents: &[u16; CORES], m: usize) -> usize
+// The index of the first least of the first m keys; 0 for none.
+pub fn least(keys: &[u32; CORES], m: usize) -> usize
     requires { ⌜ m ≤ maxCores ⌝ }
-    ensures { λ r. ⌜ r ≡ walk (keyBelow (now (currents .entry))) m ⌝ }
+    ensures { λ r. ⌜ r ≡ walk (keyBelow (now (keys .entry))) m ⌝ }
 {
     let mut best = 0;
     let mut k = 1;
     while k < m {
-        if currents[k] < currents[best] {
+        if keys[k] < keys[best] {
             best = k;
         }
         k += 1;

@@ -1,4 +1,4 @@
-// Document 01's "Table of runs". A row is a command, and for a marked one, T1 to T12, what the table wants of it:
+// Document 01's "Table of runs", and a run of document 02. A row is a command, and for a marked one, T1 to T12, what the table wants of it:
 //   0       the mark, 1 to 12 for T1 to T12, 0 for a step without one
 //   1       the command's number 0 to 7; or START, go back to the table's start state; or MAKE, make a controller
 //   2, 3    the id or core, and the priority; of a making, how many sources and cores
@@ -8,7 +8,7 @@ pub const START: u16 = 8;
 
 pub const MAKE: u16 = 9;
 
-pub const ROWS: usize = 54;
+pub const ROWS: usize = 59;
 
 pub const COLUMNS: usize = 11;
 
@@ -48,6 +48,12 @@ const SCRIPT: [[u16; COLUMNS]; ROWS] = [
     [0, 8, 0, 0, 0, 0, 0, 0, 0, 0, 0],
     [0, 4, 4, 0, 0, 0, 0, 0, 0, 0, 0],
     [12, 4, 4, 0, 6, 0, 0, 4, 0, 4, 2],
+    // document 02, request 2: of two cores at 3 the one whose box is filled gets the request of 9
+    [0, 8, 0, 0, 0, 0, 0, 0, 0, 0, 0],
+    [0, 3, 0, 3, 0, 0, 0, 0, 0, 0, 0],
+    [0, 3, 1, 1, 0, 0, 0, 0, 0, 0, 0],
+    [0, 4, 3, 0, 0, 0, 0, 0, 0, 0, 0],
+    [0, 4, 9, 0, 0, 0, 0, 0, 0, 0, 0],
     // priorities in and out of range; a bad id is found first
     [0, 8, 0, 0, 0, 0, 0, 0, 0, 0, 0],
     [0, 0, 4, 127, 0, 0, 0, 0, 0, 0, 0],

@@ -60,7 +60,7 @@ module _ (s : Controller) (w : WellFormed s) (k : CoreId) (k-lt : k .0 < s .m) (
   unfolding effect
   claim-rests =
       still after
-      ((effect-begins s w (OnCore k Claim) (k-lt, filled)) .0)
+      ((effect-begins s w (OnCore k Claim) (k-lt, filled)) .consistent)
       (claimed-delivering s old (k .0) k-lt filled (wellFormed-delivering s w))
       (λ i j i-lt j-lt e. rw (current-same s old (k .0) k-lt filled j) (w .quiet .candidates-settled i j i-lt j-lt e))
 

@@ -4,6 +4,7 @@
 --   withCores-consistent    such a write keeps `Consistent`
 --   box-range               a filled box's priority is 1 to top
 --   current-same            a claim leaves every core's current priority as it was
+--   claimed-frugal          and no covered priority that reaches a box
 -- and the cores after the two commands are such cores, in the phase that settling begins with.
 use Prim.Native.Nat.{ℕ, pred, _<_, _≤_}
 use mathlib.Core.Path.{_≡_, refl, sym, ap, _∙_}
@@ -19,7 +20,7 @@ use Rattle.model.specs.Requests.{currentPriority}
 use Rattle.model.specs.Commands.{soiled, claimedCore}
 use Rattle.lists.proofs.Bools.{clash}
 use Rattle.lists.proofs.Writes.{read-set}
-use Rattle.model.specs.WellFormed.{Consistent, Holding}
+use Rattle.model.specs.WellFormed.{Consistent, Holding, Frugal}
 use Rattle.settling.specs.Phases.{AllDirty, Delivering}
 use Rattle.effects.proofs.Checked.{InTop}
 
@@ -115,6 +116,15 @@ module _ (s : Controller) (c : Consistent s) (k : ℕ) (k-lt : k < s .m) (filled
         clean = λ j h. read-claimed (λ d. d .message .dirty ≡ false) j (λ e. refl) (old .clean j h);
         covered = λ j i h h′. rw (current-same i) (read-claimed (λ d. d .message .filled ≡ true → d .configured ≤ currentPriority (coreAt s i)) j (λ e f. clash f refl) (old .covered j i h h′));
       }
+
+  pub claimed-frugal : Frugal s → Frugal (withCores s (claimedCores s k))
+  claimed-frugal f j i h h′ =
+      read-claimed
+      (λ c. c .message .filled ≡ true → (getD (claimedCores s k) i noCore) .message .filled ≡ true →
+      c .configured < (getD (claimedCores s k) i noCore) .message .priority) j
+      (λ e u v. clash u refl)
+      (read-claimed (λ d. (coreAt s j) .message .filled ≡ true → d .message .filled ≡ true → (coreAt s j) .configured < d .message .priority) i
+      (λ e u v. clash v refl) (f j i h h′))
 
 -- ---- set core priority
 

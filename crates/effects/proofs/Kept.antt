@@ -13,21 +13,33 @@ use Rattle.model.specs.WellFormed.{WellFormed}
 use Rattle.model.specs.Settling.{settle, isRetraction, isDelivery, countOf, cyclesOf}
 use Rattle.model.specs.Commands.{effect, refusal, answeredId, settled, refused}
 use Rattle.model.specs.Statements.{WellFormedKept, EndedBy, NothingCutShort, CyclesBounded}
-use Rattle.settling.specs.Phases.{Settles}
+use Rattle.settling.specs.Phases.{Strict, Settles}
 use Rattle.settling.proofs.Ends.{phases-settle}
+use Rattle.settling.proofs.Spared.{phases-spare}
 use Rattle.effects.proofs.Accepted.{execute-accepted, by-answer}
 use Rattle.effects.proofs.Checked.{accepted}
-use Rattle.effects.proofs.Effects.{effect-m, effect-begins}
+use Rattle.effects.proofs.Effects.{effect-m, Begun, effect-begins}
+
+begun : (s : Controller) (c : Command) → refusal s c ≡ 0 → Begun (effect s c)
+begun s c e = let (w, checks) = accepted s c e in effect-begins s w c checks
 
 pub execute-settles : (s : Controller) (c : Command) → refusal s c ≡ 0 → Settles (effect s c)
-execute-settles s c e =
-    let (w, checks) = accepted s c e in
-    let (consistent, phase) = effect-begins s w c checks in
-    phases-settle (effect s c) consistent phase
+execute-settles s c e = phases-settle (effect s c) (begun s c e .consistent) (begun s c e .phase)
+
+settled-wellFormed : (s : Controller) (c : Command) → refusal s c ≡ 0 → WellFormed (settle (2 * (effect s c) .m) (effect s c))
+settled-wellFormed s c e =
+    let b : Begun (effect s c) = begun s c e in
+    let strict : Strict (settle (2 * (effect s c) .m) (effect s c)) = (execute-settles s c e) .strict in
+    record {
+      consistent = strict .consistent;
+      clean = strict .clean;
+      quiet = strict .quiet;
+      frugal = phases-spare (effect s c) (b .consistent) (b .phase) (b .spared) (2 * (effect s c) .m) (strict .clean);
+    }
 
 pub wellFormed-kept : WellFormedKept
 unfolding settled refused
-wellFormed-kept s c w = by-answer s c (λ a. WellFormed (a .state)) (λ e. (execute-settles s c e) .wellFormed) (λ h. w)
+wellFormed-kept s c w = by-answer s c (λ a. WellFormed (a .state)) (settled-wellFormed s c) (λ h. w)
 
 -- ---- cycles beyond those that a command takes
 
@@ -42,7 +54,7 @@ module _ (e : Controller) (done : Settles e) (f : ℕ) (more : 2 * e .m ≤ f) w
       record {
         same-state = settle-beyond e (2 * e .m) (done .rests) f more;
         same-count = omega (arith, same isRetraction refl, same isDelivery refl);
-        at-rest = record { rests = done .rests; clean = done .wellFormed .clean; none-above = done .wellFormed .quiet .candidates-settled };
+        at-rest = record { rests = done .rests; clean = done .strict .clean; none-above = done .strict .quiet .candidates-settled };
         retractions-le = omega (arith, same isRetraction refl, done .retractions);
         deliveries-le = omega (arith, same isDelivery refl, done .deliveries);
       }

@@ -2,17 +2,19 @@
 --   total n f        f 0 + .. + f (n - 1)
 --   total-le         a sum is at most another if each number of it is
 --   total-lt         and below it if some number is
+--   tally-total    how many numbers a test holds of, as a sum
 --   reach t x        1 if x is at or above t, else 0
 --   reached m t f    how many of f 0, .., f (m - 1) are at or above t
 --   reached-le       at most m; `reached-all`: m, if all are
 --   reached-more     a row has more than another if it reaches wherever the other does, and at a place where the other doesn't
 use Prim.Native.Nat.{ℕ, zero, suc, _+_, _<_, _≤_}
 use mathlib.Core.Path.{_≡_, refl}
-use mathlib.Core.Bool.{cond}
+use mathlib.Core.Bool.{Bool, cond}
 use native.Mathlib.Omega.{arith}
 use native.Mathlib.Decide.{decLe, ℕ-discrete}
 use lib.Dec.{leb}
 use borrow.Author.Tests.{le-leb, lt-leb}
+use Rattle.lists.specs.Walks.{tally}
 
 -- ---- sums
 
@@ -42,12 +44,17 @@ module _ (f g : ℕ → ℕ) where
           omega (arith, total-le j (λ i u. h i (omega arith)))
       go (no e) rest = omega (arith, rest (omega arith) q, h j (omega arith))
 
+pub tally-total : (n : ℕ) (f : ℕ → Bool) → tally n f ≡ total n (λ k. cond (f k) 1 0)
+unfolding total tally
+tally-total zero f = refl
+tally-total (suc k) f = omega (arith, tally-total k f)
+
 -- ---- one number
 
 unfoldable pub reach : ℕ → ℕ → ℕ
 reach t x = cond (leb t x) 1 0
 
-reach-up : (t x : ℕ) → t ≤ x → reach t x ≡ 1
+pub reach-up : (t x : ℕ) → t ≤ x → reach t x ≡ 1
 unfolding reach
 reach-up t x p = rw (le-leb t x p)
 

@@ -1,6 +1,7 @@
 -- Lists sorted from the top, compared by how many of their numbers reach each threshold. Assumes nothing.
 --   Falling top l        no number of l is above the one before it, nor the first above top
 --   count-at, at-count   the j-th number is at or above a threshold from 1 up exactly if more than j numbers are
+--   sorted-count         lists that are equal once sorted reach each threshold equally often
 --   sorted-le            a list that never reaches a threshold more often than another is, sorted, nowhere above it
 --   top-of               a list of m numbers that reaches each threshold as often as another does, up to m, is its m highest numbers
 use Prim.Native.Nat.{ℕ, zero, suc, _+_, _≤_, _<_, min}
@@ -147,6 +148,9 @@ sorted-le-at a b j h = go (decLe 1 (getD (sortDown a) j 0))
         at-count x tb (sortDown b) fb j
         (rw (sort-count x b) (h x (rw (sort-count x a) at (count-at x ta (sortDown a) fa j p (omega arith)))))
     go (no q) = omega arith
+
+pub sorted-count : (a b : List ℕ) → sortDown a ≡ sortDown b → (t : ℕ) → count t a ≡ count t b
+sorted-count a b e t = omega (arith, sort-count t a, sort-count t b, ap (count t) e)
 
 pub sorted-le :
     (a b : List ℕ) → ((t : ℕ) → count t a ≤ count t b) → (j : ℕ) → getD (sortDown a) j 0 ≤ getD (sortDown b) j 0

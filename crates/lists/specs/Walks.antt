@@ -1,5 +1,6 @@
 -- Walks over the numbers below a bound, and the first winner of a row. Definitions only. Assumes nothing.
 --   every n f, some n f      f holds of each, of some number below n; every 0 f holds, some 0 f does not
+--   tally n f                how many numbers below n f holds of
 --   FirstOf above n w        w is the first highest of 0, .., n - 1
 --   winner above x y         the later contender y replaces x only if it is above x: x keeps a tie
 --   walk above n             the first highest of 0, .., n - 1, met in that order; 0 for an empty row
@@ -17,6 +18,10 @@ every (suc k) f = every k f && f k
 unfoldable pub some : ℕ → (ℕ → Bool) → Bool
 some zero f = false
 some (suc k) f = some k f || f k
+
+unfoldable pub tally : ℕ → (ℕ → Bool) → ℕ
+tally zero f = 0
+tally (suc k) f = tally k f + cond (f k) 1 0
 
 abbrev pub winner : (ℕ → ℕ → Bool) → ℕ → ℕ → ℕ
 winner above x y = cond (above y x) y x

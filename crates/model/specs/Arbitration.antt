@@ -1,11 +1,12 @@
 -- The highest candidate and the least core. Definitions only. Assumes nothing.
--- Source: document 01, "Settling", step 2, and the comparator tree.
+-- Source: document 01, "Settling", step 2, and the comparator tree; the tie between cores is document 02's, request 2.
 --   rank r            0 for no candidate, else one more than the request's priority, so that a candidate of priority 0 counts
 --   highest l n       the index of the first highest candidate of the first n sources, by the comparator tree;
 --                     it is a candidate unless there is none
 --   highestId l n     its id, 0 if there is none
---   least l m         the first core of least current priority among the first m
-use Prim.Native.Nat.{ℕ, suc}
+--   least l m         of the first m cores the one to be interrupted first: of least current priority, on a tie one whose box is
+--                     filled, then the lowest number
+use Prim.Native.Nat.{ℕ, suc, _+_, _*_}
 use mathlib.Core.List.{List}
 use mathlib.Core.Bool.{Bool, cond}
 use lib.ListN.{getD}
@@ -33,9 +34,14 @@ highestByWalk l n = walk (higher l) n
 unfoldable pub highestId : List Source → ℕ → ℕ
 highestId l n = cond (candidate (getD l (highest l n) noSource)) (suc (highest l n)) 0
 
--- Core i is below core j: strictly, so on a tie the lower number stays.
+-- Where a core stands in arbitration: by its current priority, and on a tie a filled box goes first, since to put its request back
+-- disturbs no further core.
+abbrev pub coreKey : Core → ℕ
+coreKey c = 2 * currentPriority c + cond (c .message .filled) 0 1
+
+-- Core i is below core j: strictly, so of two that stand alike the lower number stays.
 abbrev pub lower : List Core → ℕ → ℕ → Bool
-lower l i j = ltb (currentPriority (getD l i noCore)) (currentPriority (getD l j noCore))
+lower l i j = ltb (coreKey (getD l i noCore)) (coreKey (getD l j noCore))
 
 unfoldable pub least : List Core → ℕ → ℕ
 least l m = walk (lower l) m

@@ -6,6 +6,7 @@
 --   competes n m b s id      the request of id 1 to n is open, and lies in a box of cores 0 to m - 1 of s or waits unmasked
 --   collection n m b s       every core's configured priority, and the priority of every request that competes
 --   Placement n m b s P      P gives each core k below m a request P k, or none (0)
+--   placedBy m P             how many requests it gives; `filledBoxes m s` how many boxes are filled
 --   sortDown l               l sorted from the top, repeats kept
 -- Of the state only the boxes and the cores' current priorities are read.
 use Prim.Native.Nat.{ℕ, suc, _<_, _≤_}
@@ -14,6 +15,7 @@ use mathlib.Core.List.{List, [], _∷_, _++_}
 use mathlib.Core.Bool.{Bool, true, false, not, _&&_, _||_, cond}
 use lib.Dec.{ltb, eqb}
 use Rattle.lists.specs.Rows.{gather, row, write}
+use Rattle.lists.specs.Walks.{tally}
 use Rattle.model.specs.declared.Controller.{Controller}
 use Rattle.model.specs.declared.Answer.{Answer}
 use Rattle.model.specs.declared.Command.{Command}
@@ -156,3 +158,10 @@ inBoxes s k = cond ((coreAt s k) .message .filled) ((coreAt s k) .message .sourc
 
 abbrev pub currentPriorities : ℕ → Controller → List ℕ
 currentPriorities m s = row m (λ k. currentPriority (coreAt s k))
+
+-- How many requests a placement gives to cores 0 to m - 1, and how many of their boxes are filled.
+abbrev pub placedBy : ℕ → (ℕ → ℕ) → ℕ
+placedBy m P = tally m (λ k. ltb 0 (P k))
+
+abbrev pub filledBoxes : ℕ → Controller → ℕ
+filledBoxes m s = tally m (λ k. (coreAt s k) .message .filled)

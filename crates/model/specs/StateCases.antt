@@ -20,7 +20,7 @@ use Rattle.model.specs.declared.SourceAction.the-variants.{Mask}
 use Rattle.model.specs.declared.CoreAction.the-variants.{SetCorePriority}
 use Rattle.model.specs.Records.{sourceId, coreId, sourceWith, resetSource, boxWith, emptyBox, coreWith, resetCore, sourceAt, coreAt, withSources, withCores, withSource, withCore, reset}
 use Rattle.lists.specs.Walks.{every}
-use Rattle.model.specs.WellFormed.{backedBy, sizesInRange, listsWhole, sourcesInRange, coresInRange, sparesReset, boxesBacked, boxesDistinct, boxesClean, candidatesSettled, coveredSettled, wellFormed}
+use Rattle.model.specs.WellFormed.{backedBy, sizesInRange, listsWhole, sourcesInRange, coresInRange, sparesReset, boxesBacked, boxesDistinct, boxesClean, candidatesSettled, coveredSettled, frugal, wellFormed}
 use Rattle.model.specs.Settling.{next, cycle}
 use Rattle.model.specs.Commands.{effect, execute, make}
 use Rattle.model.specs.Cases.{sameNumbers}
@@ -63,13 +63,16 @@ candidates = 8
 abbrev covered : ℕ
 covered = 9
 
+abbrev needed : ℕ
+needed = 10
+
 abbrev pub clauses : Controller → List Bool
 clauses s =
     sizesInRange (s .n) (s .m) ∷
     listsWhole s ∷
     sourcesInRange s ∷
     coresInRange s ∷
-    sparesReset s ∷ boxesBacked s ∷ boxesDistinct s ∷ boxesClean s ∷ candidatesSettled s ∷ coveredSettled s ∷ []
+    sparesReset s ∷ boxesBacked s ∷ boxesDistinct s ∷ boxesClean s ∷ candidatesSettled s ∷ coveredSettled s ∷ frugal s ∷ []
 
 -- These are all: the test is their conjunction.
 abbrev pub ClausesAreTest : Type 0
@@ -191,14 +194,15 @@ spareCases =
     atSource spares 127 (sourceWith 2 true false false 0) resetSource ∷ atCore spares 31 (emptyAt 1) resetCore ∷ []
 
 -- A filled box names a source, which neither id 0 nor id 4 does, that is pending and delivered, with the same priority, strictly above
--- its core's configured priority.
+-- its core's configured priority, which is also the last clause for that core.
 abbrev boxCases : List StateCase
 boxCases =
     atCore backed 0 (holdsAt 2 0 3) (holdsAt 2 1 3) ∷
     atCore backed 0 (holdsAt 2 4 3) (holdsAt 2 1 3) ∷
     atSource backed 0 (idleAt 5) (deliveredAt 3) ∷
     atSource backed 0 (waitingAt 3) (deliveredAt 3) ∷
-    atSource backed 0 (deliveredAt 4) (deliveredAt 3) ∷ atCore backed 0 (holdsAt 3 1 3) (holdsAt 2 1 3) ∷ []
+    atSource backed 0 (deliveredAt 4) (deliveredAt 3) ∷
+    record { breaks = backed ∷ needed ∷ []; broken = withCore calm 0 (holdsAt 3 1 3); sound = calm } ∷ []
 
 -- No source in two boxes; no box dirty; no candidate above the least current priority, though a masked request may be; the configured
 -- priority under a filled box isn't above any core's current priority.
@@ -209,8 +213,25 @@ settledCases =
     atSource candidates 2 (waitingAt 4) (waitingAt 3) ∷
     atSource candidates 2 (waitingAt 4) (sourceWith 5 true true false 4) ∷ atCore covered 1 (emptyAt 1) (emptyAt 2) ∷ []
 
+-- Requests of 3 and 4 in both boxes, the second over a core at the priority given.
+abbrev bothFilled : ℕ → Controller
+bothFilled configured = withCore (withSource calm 1 (deliveredAt 4)) 1 (holdsAt configured 2 4)
+
+-- Cores at 3 and 1, and requests of 3 and 9, as document 02 has them: source 3's request with the delivered mark given, and the cores.
+abbrev threeAndNine : Bool → Core → Core → Controller
+threeAndNine delivered first second =
+    let sources : Controller = withSource (withSource (reset 9 2) 2 (sourceWith 3 false true delivered 3)) 8 (sourceWith 9 false true true 9) in
+    withCore (withCore sources 0 first) 1 second
+
+-- Each configured priority under a filled box is below every filled box's priority: another core's box refuses 3 under it at 3. And
+-- document 02's run, [9,3] by the lowest number alone, and [3,9].
+abbrev neededCases : List StateCase
+neededCases =
+    differ needed (bothFilled 3) (bothFilled 2) ∷
+    differ needed (threeAndNine true (holdsAt 3 9 9) (holdsAt 1 3 3)) (threeAndNine false (emptyAt 3) (holdsAt 1 9 9)) ∷ []
+
 unfoldable pub stateCases : List StateCase
-stateCases = sizeCases ++ (sourceCases ++ (coreCases ++ (spareCases ++ (boxCases ++ settledCases))))
+stateCases = sizeCases ++ (sourceCases ++ (coreCases ++ (spareCases ++ (boxCases ++ (settledCases ++ neededCases)))))
 
 -- Of three sources: id 3 is one and id 4 isn't; a source that isn't pending backs no box. In a whole state the clauses on spare and on
 -- idle sources say so too.

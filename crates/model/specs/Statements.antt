@@ -8,7 +8,7 @@ use mathlib.Core.List.{List}
 use mathlib.Core.Bool.{Bool, true, false, not, _||_, cond}
 use lib.ListN.{getD, take}
 use lib.Dec.{eqb}
-use Rattle.model.specs.WellFormed.{Quiet, quiet, Clean, boxesClean, Consistent, consistent, wellFormed, WellFormed}
+use Rattle.model.specs.WellFormed.{Frugal, frugal, Quiet, quiet, Clean, boxesClean, Consistent, consistent, wellFormed, WellFormed}
 use Rattle.lists.specs.Walks.{FirstOf, comparisons}
 use Rattle.model.specs.declared.Source.{Source}
 use Rattle.model.specs.declared.SourceId.{SourceId}
@@ -23,13 +23,13 @@ use Rattle.model.specs.declared.SourceAction.{SourceAction}
 use Rattle.model.specs.declared.SourceAction.the-variants.{SetSourcePriority, Mask, Unmask, Trigger, Redeliver, Complete}
 use Rattle.model.specs.declared.CoreAction.{CoreAction}
 use Rattle.model.specs.declared.CoreAction.the-variants.{SetCorePriority, Claim}
-use Rattle.model.specs.Records.{maxSources, maxCores, noSource, sourceId, indexOf, sourceWith, boxWith, coreWith, sourceAt, coreAt, bare, reset, answer}
+use Rattle.model.specs.Records.{maxSources, maxCores, noSource, noCore, sourceId, indexOf, sourceWith, boxWith, coreWith, sourceAt, coreAt, bare, reset, answer}
 use Rattle.model.specs.Priorities.{floorLog2, topPriority}
 use Rattle.model.specs.Requests.{currentPriority, candidate, claimed, Owner, Owns}
 use Rattle.model.specs.Arbitration.{higher, highest, highestByWalk, highestId, lower, least}
 use Rattle.model.specs.Settling.{next, settle, isRetraction, isDelivery, countOf, cyclesOf}
 use Rattle.model.specs.Commands.{effect, malformed, badCore, badSource, badPriority, alreadyPending, nothingToClaim, notClaimed, refusal, afterRefusal, execute, make}
-use Rattle.model.specs.Ledger.{Ledger, opening, ledger, collection, Placement, given, inBoxes, requestPriority, currentPriorities, entriesBy}
+use Rattle.model.specs.Ledger.{Ledger, opening, ledger, collection, Placement, given, inBoxes, requestPriority, currentPriorities, placedBy, filledBoxes, entriesBy}
 use Rattle.lists.specs.Rows.{row}
 use Rattle.lists.specs.Sorting.{sortDown}
 use Rattle.model.specs.Behaviours.{Behaviour, runBy}
@@ -66,11 +66,12 @@ ResetWellFormed = (n m : ℕ) → InRange n m → WellFormed (reset n m)
 abbrev pub TestExact : Type 0
 TestExact = (s : Controller) → (wellFormed s ≡ true) ↔ WellFormed s
 
--- Each layer's test means its proposition; without a core the last one's has no least priority to compare with.
+-- Each layer's test means its proposition; without a core that of the third has no least priority to compare with.
 abbrev pub LayersExact : Type 0
 LayersExact =
     (s : Controller) →
-    ((consistent s ≡ true) ↔ Consistent s) × ((boxesClean s ≡ true) ↔ Clean s) × (1 ≤ s .m → (quiet s ≡ true) ↔ Quiet s)
+    ((consistent s ≡ true) ↔ Consistent s) ×
+    ((boxesClean s ≡ true) ↔ Clean s) × (1 ≤ s .m → (quiet s ≡ true) ↔ Quiet s) × ((frugal s ≡ true) ↔ Frugal s)
 
 abbrev pub WellFormedKept : Type 0
 WellFormedKept = (s : Controller) (c : Command) → WellFormed s → WellFormed ((execute s c) .state)
@@ -112,6 +113,28 @@ TreeFindsFirst = (l : List Source) (n : ℕ) → 1 ≤ n → FirstOf (higher l) 
 
 abbrev pub LeastIsFirst : Type 0
 LeastIsFirst = (l : List Core) (m : ℕ) → 1 ≤ m → FirstOf (lower l) m (least l m)
+
+-- Core i is below core j: its current priority is less, or the same, and only i's box is filled.
+pub data Below (l : List Core) (i j : ℕ) : Type 0 where
+  less : currentPriority (getD l i noCore) < currentPriority (getD l j noCore) → Below l i j
+  filled-first :
+      currentPriority (getD l i noCore) ≡ currentPriority (getD l j noCore) → (getD l i noCore) .message .filled ≡ true →
+      (getD l j noCore) .message .filled ≡ false → Below l i j
+
+abbrev pub LowerExact : Type 0
+LowerExact = (l : List Core) (i j : ℕ) → (lower l i j ≡ true) ↔ Below l i j
+
+-- Core i goes before core j: it is below, or the two stand alike and its number is lower.
+pub data GoesBefore (l : List Core) (i j : ℕ) : Type 0 where
+  below : Below l i j → GoesBefore l i j
+  lower-number :
+      currentPriority (getD l i noCore) ≡ currentPriority (getD l j noCore) →
+      (getD l i noCore) .message .filled ≡ (getD l j noCore) .message .filled → i < j → GoesBefore l i j
+
+-- The least core is one of the m, and goes before every other of them.
+abbrev pub LeastGoesFirst : Type 0
+LeastGoesFirst =
+    (l : List Core) (m : ℕ) → 1 ≤ m → (least l m < m) × ((j : ℕ) → j < m → j ≢ least l m → GoesBefore l (least l m) j)
 
 -- The id is 0 exactly when there is no candidate; else it is that of the candidate of highest priority, the lowest id on a tie.
 pub record HighestCandidate (l : List Source) (n : ℕ) : Type 0 where
@@ -241,7 +264,8 @@ DemandTwo x = (s : Controller) (c : Command) → x s c ≡ execute s c
 
 -- ---- demand 3
 
--- The state s after a list of commands, held against the ledger b of the same list, for n sources and m cores.
+-- The state s after a list of commands, held against the ledger b of the same list, for n sources and m cores. The last clause is
+-- document 02's, request 2.
 pub record PriorityStrict (n m : ℕ) (b : Ledger) (s : Controller) : Type 0 where
   -- the sizes are those that the controller was made with
   pub n-same : s .n ≡ n
@@ -258,6 +282,9 @@ pub record PriorityStrict (n m : ℕ) (b : Ledger) (s : Controller) : Type 0 whe
   -- no placement is higher at any place
   pub none-higher :
       (P : ℕ → ℕ) → Placement n m b s P → (j : ℕ) → getD (sortDown (row m (given b P))) j 0 ≤ getD (sortDown (currentPriorities m s)) j 0
+  -- no placement with the same current priorities, sorted, gives fewer requests than there are filled boxes
+  pub fewest-boxes :
+      (P : ℕ → ℕ) → Placement n m b s P → sortDown (row m (given b P)) ≡ sortDown (currentPriorities m s) → filledBoxes m s ≤ placedBy m P
 
 -- After every list of commands, of any length and with any arguments, refused ones included, from a fresh controller of any size in range.
 abbrev pub EveryListStrict : Behaviour → Type 0

@@ -1,12 +1,13 @@
 -- The sound-state test, clause by clause, and the same as a proposition. Definitions only. Assumes nothing.
--- Source: document 01, "A sound state", in its order. Document 01's word is "sound".
+-- Source: document 01, "A sound state", in its order; the last layer is document 02's, request 2. Document 01's word is "sound".
 --   wellFormed s     the computed test: it answers on any record, whatever sizes, ids and priorities it holds
 --   WellFormed s     what the test means; the two are proved equivalent
--- Both are made of three layers, each with a test of its own:
+-- Both are made of four layers, each with a test of its own:
 --   consistent, Consistent    the structure: sizes, ranges, blank values, boxes that name their request; it holds between two cycles
 --                             of settling too, so a dirty box need not be above its core's configured priority
 --   boxesClean, Clean         no box is dirty
 --   quiet, Quiet              no candidate and no covered priority is above a current one
+--   frugal, Frugal            no covered priority reaches the priority of any filled box, so that no box could be left empty
 -- The lists' lengths are those of the arrays in every value that a program can hold.
 use Prim.Native.Nat.{ℕ, _-_, _<_, _≤_}
 use mathlib.Core.Path.{_≡_}
@@ -110,8 +111,15 @@ consistent s =
 unfoldable pub quiet : Controller → Bool
 quiet s = candidatesSettled s && coveredSettled s
 
+-- Each configured priority under a filled box is strictly below every filled box's priority, its own included.
+unfoldable pub frugal : Controller → Bool
+frugal s =
+    every (s .m) (λ j.
+    not ((coreAt s j) .message .filled) ||
+    every (s .m) (λ k. not ((coreAt s k) .message .filled) || ltb ((coreAt s j) .configured) ((coreAt s k) .message .priority)))
+
 unfoldable pub wellFormed : Controller → Bool
-wellFormed s = consistent s && boxesClean s && quiet s
+wellFormed s = consistent s && boxesClean s && quiet s && frugal s
 
 -- ---- the proposition
 
@@ -154,7 +162,13 @@ pub record Quiet (s : Controller) : Type 0 where
   pub covered-settled :
       (j k : ℕ) → j < s .m → k < s .m → (coreAt s j) .message .filled ≡ true → (coreAt s j) .configured ≤ currentPriority (coreAt s k)
 
+abbrev pub Frugal : Controller → Type 0
+Frugal s =
+    (j k : ℕ) → j < s .m → k < s .m → (coreAt s j) .message .filled ≡ true → (coreAt s k) .message .filled ≡ true →
+    (coreAt s j) .configured < (coreAt s k) .message .priority
+
 pub record WellFormed (s : Controller) : Type 0 where
   pub consistent : Consistent s
   pub clean : Clean s
   pub quiet : Quiet s
+  pub frugal : Frugal s

@@ -3,7 +3,7 @@ ghost use mathlib.Core.Path.{_≡_};
 ghost use Rattle.model.specs.Records.{sourceWith, withConfigured, withMask, withDelivered, opened as openedOf, ended as endedOf, boxWith, emptyBox, holding, coreWith, reset as resetOf, answer};
 ghost use Rattle.model.specs.Priorities.{topPriority};
 ghost use Rattle.model.specs.Requests.{currentPriority, candidate};
-ghost use Rattle.model.specs.Arbitration.{rank as rankOf};
+ghost use Rattle.model.specs.Arbitration.{rank as rankOf, coreKey};
 ghost use Rattle.model.specs.Commands.{claimedCore, soiled as soiledCore, sourceAfter};
 use model::Answer;
 use model::CORES;
@@ -209,6 +209,17 @@ pub fn current_priority(c: Core) -> u16
     } else {
         c.configured
     }
+}
+
+// Where a core stands in arbitration: twice its current priority, and one more where its box is empty, so that on a tie a filled box
+// goes first.
+pub fn core_key(c: Core) -> u32
+    ensures { λ k. ⌜ k ≡ coreKey c ⌝ }
+{
+    if !c.message.filled {
+        return 2 * c.configured as u32 + 1;
+    }
+    2 * c.message.priority as u32
 }
 
 // Pending, not delivered, not masked.

@@ -13,12 +13,12 @@ use Rattle.model.specs.declared.Cycle.the-variants.{Rest, Deliver}
 use Rattle.model.specs.Records.{sourceId, coreId, sourceAt, coreAt}
 use Rattle.model.specs.Priorities.{topPriority}
 use Rattle.model.specs.Requests.{currentPriority, candidate}
-use Rattle.model.specs.WellFormed.{WellFormed, Consistent}
+use Rattle.model.specs.WellFormed.{Consistent}
 use Rattle.model.specs.Settling.{deliver, next}
 use Rattle.lists.proofs.Bools.{clash}
 use Rattle.model.proofs.Candidates.{candidate-pending}
 use Rattle.lists.proofs.Counting.{reached, reached-le, reached-more}
-use Rattle.settling.specs.Phases.{Delivering, Ended}
+use Rattle.settling.specs.Phases.{Delivering, Strict, Ended}
 use Rattle.settling.proofs.Writes.{core-deliver-other}
 use Rattle.settling.proofs.Keeps.{deliver-keeps, kept-n, kept-m, kept-priority}
 use Rattle.settling.proofs.Arbitrated.{Arbitrated, CandidateBefore, stayed, evicted}
@@ -26,10 +26,10 @@ use Rattle.settling.proofs.Deliver.{deliver-consistent, deliver-current
 use Rattle.settling.proofs.Next.{Contest, Settled, Next, resting, retracting, arbitrating, next-cases}
 use Rattle.settling.proofs.Run.{ended-here, ended-step, ended-within}
 
--- ---- at rest the state is sound
+-- ---- at rest the state is sound, but for its last layer
 
-settled-wellFormed : {s : Controller} → Consistent s → Delivering s → Settled s → WellFormed s
-settled-wellFormed c d st =
+settled-strict : {s : Controller} → Consistent s → Delivering s → Settled s → Strict s
+settled-strict c d st =
     record { consistent = c; clean = d .clean; quiet = record { candidates-settled = st; covered-settled = d .covered } }
 
 -- ---- one delivery
@@ -93,7 +93,7 @@ module _ (s : Controller) (p : ℕ) (run : Running s p) (i k : ℕ) (c : Contest
 -- ---- all of them
 
 data Move (s : Controller) (p : ℕ) : Type 0 where
-  still : next s ≡ Rest → WellFormed s → Move s p
+  still : next s ≡ Rest → Strict s → Move s p
   moving :
       (i k : ℕ) → next s ≡ Deliver (sourceId (suc i)) (coreId k) → Arbitrated s i k →
       Running (deliver s i k) ((sourceAt s i) .priority) → short (deliver s i k) ((sourceAt s i) .priority) < short s p → Move s p
@@ -102,7 +102,7 @@ move : (s : Controller) (p : ℕ) → Running s p → Move s p
 move s p run = go (next-cases s (run .consistent .some-source) (run .consistent .some-core))
   where
     go : Next s → Move s p
-    go (resting e clean st) = still e (settled-wellFormed (run .consistent) (run .delivering) st)
+    go (resting e clean st) = still e (settled-strict (run .consistent) (run .delivering) st)
     go (retracting k e h dirty) = clash dirty (run .delivering .clean k h)
     go (arbitrating i k e clean c) =
         moving i k e (arbitrated s p run i k c) (running-deliver s p run i k c) (short-deliver s p run i k c)

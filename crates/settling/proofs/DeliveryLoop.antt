@@ -3,7 +3,7 @@
 --   delivered-none               before the first turn
 --   delivered-more               a turn that delivers
 --   delivered-rest, -all         at rest, or after m turns: the answer is that of every longer run
-use Prim.Native.Nat.{ℕ, suc, _+_, _^_, _<_, _≤_}
+use Prim.Native.Nat.{ℕ, suc, _+_, _<_, _≤_}
 use mathlib.Core.Path.{_≡_, refl}
 use mathlib.Core.List.{List}
 use mathlib.Core.Bool.{true}
@@ -14,9 +14,11 @@ use Rattle.model.specs.declared.Controller.{Controller}
 use Rattle.model.specs.declared.Cycle.the-variants.{Rest, Deliver}
 use Rattle.model.specs.Records.{maxSources, maxCores, sourceId, coreId, withDelivered, holding, coreWith, sourceAt, coreAt, withSource, withCore}
 use Rattle.lists.specs.Walks.{walk}
+use Rattle.model.specs.Requests.{currentPriority}
+use Rattle.model.specs.Arbitration.{coreKey}
 use Rattle.model.specs.Settling.{next, settle, cyclesOf, isDelivery}
 use Rattle.arbitration.specs.Keys.{HighestKey, keyBelow, RanksOf}
-use Rattle.arbitration.proofs.ByKeys.{CurrentsOf}
+use Rattle.arbitration.proofs.ByKeys.{CoreKeysOf}
 use Rattle.model.specs.WellFormed.{Consistent}
 use Rattle.settling.specs.Phases.{Delivering}
 use Rattle.settling.specs.Runs.{reachedWith, AfterDeliveries}
@@ -24,7 +26,7 @@ use Rattle.settling.proofs.Arbitrated.{Arbitrated}
 use Rattle.settling.proofs.Deliver.{deliver-consistent, deliver-delivering}
 use Rattle.settling.proofs.Forward.{settle-beyond, cyclesOf-beyond, cyclesOf-le, Ran, ran-none, ran-more, ran-n, ran-m}
 use Rattle.settling.proofs.Deliveries.{deliveries-end}
-use Rattle.settling.proofs.Keyed.{Keyed, source-in, core-in, current-small, rests, delivers, arbitrated}
+use Rattle.settling.proofs.Keyed.{Keyed, source-in, core-in, rests, delivers, arbitrated}
 use Rattle.settling.proofs.Stores.{PutBack, stores-are, keyed-delivered}
 
 pub record Delivered (s : Controller) (ks cs : List ℕ) (state : Controller) (t : ℕ) : Type 0 where
@@ -35,14 +37,14 @@ pub record Delivered (s : Controller) (ks cs : List ℕ) (state : Controller) (t
   pub within : t ≤ s .m
 
 pub delivered-none :
-    (s : Controller) (ks cs : List ℕ) → Consistent s → Delivering s → RanksOf (s .sources) (s .n) ks → CurrentsOf (s .cores) (s .m) cs →
+    (s : Controller) (ks cs : List ℕ) → Consistent s → Delivering s → RanksOf (s .sources) (s .n) ks → CoreKeysOf (s .cores) (s .m) cs →
     length ks ≡ maxSources → length cs ≡ maxCores → Delivered s ks cs s 0
-delivered-none s ks cs c d ranks currents e e′ =
+delivered-none s ks cs c d ranks cores e e′ =
     record {
       ran = ran-none isDelivery s;
       consistent = c;
       delivering = d;
-      keyed = record { ranks = ranks; currents = currents; keys-length = e; currents-length = e′ };
+      keyed = record { ranks = ranks; cores = cores; ranks-length = e; cores-length = e′ };
       within = omega arith;
     }
 
@@ -65,13 +67,10 @@ module _ {s state : Controller} {ks cs : List ℕ} {t : ℕ} (r : Delivered s ks
   found-core =
       omega (arith, r .consistent .m-le, core-in (r .consistent) (r .delivering) (r .keyed) highest-here least-here)
 
-  pub found-current : getD cs k 0 < 2 ^ 17
-  found-current = current-small (r .consistent) (r .delivering) (r .keyed) highest-here least-here
-
-  pub turn-rests : getD ks at 0 ≤ getD cs k 0 + 1 → next state ≡ Rest
+  pub turn-rests : getD ks at 0 ≤ currentPriority (coreAt state k) + 1 → next state ≡ Rest
   turn-rests = rests (r .consistent) (r .delivering) (r .keyed) highest-here least-here
 
-  module _ (above : getD cs k 0 + 1 < getD ks at 0) where
+  module _ (above : currentPriority (coreAt state k) + 1 < getD ks at 0) where
     pub turn-arbitrated : Arbitrated state at k
     turn-arbitrated = arbitrated (r .consistent) (r .delivering) (r .keyed) highest-here least-here above
 
@@ -81,15 +80,15 @@ module _ {s state : Controller} {ks cs : List ℕ} {t : ℕ} (r : Delivered s ks
     pub delivered-more :
         {ks₁ : List ℕ} {s₁ : Controller} → PutBack state k ks₁ s₁ → t < s .m → (d : Core) →
         d ≡ coreWith ((coreAt state k) .configured) (holding (sourceId (at + 1)) ((sourceAt s₁ at) .priority)) →
-        Delivered s (set ks₁ at 0) (set cs k ((sourceAt s₁ at) .priority))
-        (withCore (withSource s₁ at (withDelivered true (sourceAt s₁ at))) k d) (t + 1)
-    delivered-more b h d e =
+        (v : ℕ) → v ≡ coreKey d →
+        Delivered s (set ks₁ at 0) (set cs k v) (withCore (withSource s₁ at (withDelivered true (sourceAt s₁ at))) k d) (t + 1)
+    delivered-more b h d e v is =
         rw (stores-are turn-arbitrated (r .keyed) b d e)
         (record {
           ran = ran-more (r .ran) (Deliver (sourceId (suc at)) (coreId k)) turn-delivers refl;
           consistent = deliver-consistent turn-arbitrated;
           delivering = deliver-delivering turn-arbitrated;
-          keyed = keyed-delivered turn-arbitrated (r .keyed) b;
+          keyed = keyed-delivered turn-arbitrated (r .keyed) b d e v is;
           within = omega arith;
         })
 

@@ -1,10 +1,9 @@
--- The keys decide as the records do: what the highest key and the least current priority say of the next cycle. Assumes nothing.
---   Keyed s ks cs          ks holds the ranks of the sources of s, cs the current priorities of its cores
---   source-in, core-in     the index of the highest key is a source's, that of the least current priority a core's
---   current-small          that priority, as a number of 32 binary digits, can be raised by one
---   rests, delivers        the key is above the current priority by more than one exactly if the next cycle is a delivery
+-- The keys decide as the records do: what the highest rank and the least core's key say of the next cycle. Assumes nothing.
+--   Keyed s ks cs          ks holds the ranks of the sources of s, cs the keys of its cores
+--   source-in, core-in     the index of the highest rank is a source's, that of the least key a core's
+--   rests, delivers        the rank is above the core's current priority by more than one exactly if the next cycle is a delivery
 --   arbitrated             what holds then
-use Prim.Native.Nat.{ℕ, suc, pred, _+_, _^_, _<_, _≤_}
+use Prim.Native.Nat.{ℕ, suc, _+_, _<_, _≤_}
 use mathlib.Core.Path.{_≡_, _∙_}
 use mathlib.Core.List.{List}
 use mathlib.Core.Bool.{true, false}
@@ -16,42 +15,26 @@ use Rattle.model.specs.declared.Core.{Core}
 use Rattle.model.specs.declared.Controller.{Controller}
 use Rattle.model.specs.declared.Cycle.the-variants.{Rest, Deliver}
 use Rattle.model.specs.Records.{maxSources, maxCores, sourceId, coreId, sourceAt, coreAt}
-use Rattle.model.specs.Priorities.{topPriority}
 use Rattle.lists.specs.Walks.{walk}
 use Rattle.model.specs.Requests.{currentPriority, candidate}
 use Rattle.model.specs.Arbitration.{rank}
 use Rattle.model.specs.Settling.{interruptedBy, arbitrate, next}
 use Rattle.lists.proofs.Bools.{and-in, Flag, on, off, flag}
 use Rattle.model.proofs.Candidates.{rank-candidate, rank-none}
-use Rattle.model.proofs.Priorities.{top-lt}
 use Rattle.arbitration.specs.Keys.{HighestKey, keyBelow, RanksOf}
-use Rattle.arbitration.proofs.Tree.{highest-below, least-below}
-use Rattle.arbitration.proofs.ByKeys.{CurrentsOf, highest-by-keys, least-by-keys}
-use Rattle.model.specs.WellFormed.{Holding, Consistent}
+use Rattle.arbitration.proofs.Tree.{highest-below}
+use Rattle.arbitration.proofs.LeastCore.{least-below}
+use Rattle.arbitration.proofs.ByKeys.{CoreKeysOf, highest-by-keys, least-by-keys}
+use Rattle.model.specs.WellFormed.{Consistent}
 use Rattle.settling.specs.Phases.{Delivering}
 use Rattle.settling.proofs.Arbitrated.{Arbitrated}
 use Rattle.settling.proofs.Next.{Contest, topSource, lowCore, contest, next-clean}
 
 pub record Keyed (s : Controller) (ks cs : List ℕ) : Type 0 where
   pub ranks : RanksOf (s .sources) (s .n) ks
-  pub currents : CurrentsOf (s .cores) (s .m) cs
-  pub keys-length : length ks ≡ maxSources
-  pub currents-length : length cs ≡ maxCores
-
--- ---- a current priority is at most the top priority, far below 2^17
-
-current-below : (s : Controller) → Consistent s → (k : ℕ) → k < s .m → currentPriority (coreAt s k) < 2 ^ 17
-current-below s c k h = go (flag ((coreAt s k) .message .filled))
-  where
-    top : topPriority (s .n) < 2 ^ 17
-    top = omega (arith, top-lt (s .n) (c .some-source) (omega (arith, c .n-le)), c .n-le)
-
-    go : Flag ((coreAt s k) .message .filled) → currentPriority (coreAt s k) < 2 ^ 17
-    go (on e) =
-        let held : Holding s (coreAt s k) = c .backed k h e in
-        let source-in : pred ((coreAt s k) .message .source .0) < s .n = omega (arith, held .some-id, held .id-le) in
-        rw e (omega (arith, held .same-priority, c .request-range _ source-in (held .pending), top))
-    go (off e) = rw e (omega (arith, c .configured-core k h, top))
+  pub cores : CoreKeysOf (s .cores) (s .m) cs
+  pub ranks-length : length ks ≡ maxSources
+  pub cores-length : length cs ≡ maxCores
 
 -- ---- a rank beside a current priority
 
@@ -77,7 +60,7 @@ module _ {s : Controller} {ks cs : List ℕ} (c : Consistent s) (d : Delivering 
   source-is = highest-by-keys (s .sources) (s .n) ks (keyed .ranks) at highest
 
   core-is : k ≡ lowCore s
-  core-is = least ∙ least-by-keys (s .cores) (s .m) cs (keyed .currents)
+  core-is = least ∙ least-by-keys (s .cores) (s .m) cs (keyed .cores)
 
   pub source-in : at < s .n
   source-in = rw source-is (highest-below (s .sources) (s .n) (c .some-source))
@@ -85,23 +68,18 @@ module _ {s : Controller} {ks cs : List ℕ} (c : Consistent s) (d : Delivering 
   pub core-in : k < s .m
   core-in = rw core-is (least-below (s .cores) (s .m) (c .some-core))
 
-  pub current-small : getD cs k 0 < 2 ^ 17
-  current-small = omega (arith, keyed .currents k core-in, current-below s c k core-in)
-
   next-is : next s ≡ arbitrate s at k
   next-is = rw (source-is, core-is) (next-clean s (d .clean))
 
-  pub rests : getD ks at 0 ≤ getD cs k 0 + 1 → next s ≡ Rest
+  pub rests : getD ks at 0 ≤ currentPriority (coreAt s k) + 1 → next s ≡ Rest
   unfolding arbitrate
   rests h =
-      next-is ∙
-      rw
-      (rank-not-above (coreAt s k) (sourceAt s at) (omega (arith, keyed .ranks at source-in, keyed .currents k core-in)))
+      next-is ∙ rw (rank-not-above (coreAt s k) (sourceAt s at) (omega (arith, keyed .ranks at source-in)))
 
-  module _ (h : getD cs k 0 + 1 < getD ks at 0) where
+  module _ (h : currentPriority (coreAt s k) + 1 < getD ks at 0) where
     interrupts-there : interruptedBy (coreAt s k) (sourceAt s at) ≡ true
     interrupts-there =
-        rank-above (coreAt s k) (sourceAt s at) (omega (arith, keyed .ranks at source-in, keyed .currents k core-in))
+        rank-above (coreAt s k) (sourceAt s at) (omega (arith, keyed .ranks at source-in))
 
     pub delivers : next s ≡ Deliver (sourceId (suc at)) (coreId k)
     unfolding arbitrate

@@ -14,6 +14,7 @@ pub mod Retractions
 pub mod Retracting
 pub mod Determined
 pub mod Ends
+pub mod Spared
 pub mod Keyed
 pub mod Stores
 pub mod DeliveryLoop

@@ -18,7 +18,8 @@ use Rattle.model.specs.Records.{noCore, sourceId, coreId, sourceAt, coreAt}
 use Rattle.model.specs.Requests.{currentPriority, candidate}
 use Rattle.model.specs.Arbitration.{highest, least}
 use Rattle.model.specs.Settling.{firstDirty, interruptedBy, arbitrate, next}
-use Rattle.arbitration.proofs.Tree.{least-below, least-le, highest-below, highest-ge}
+use Rattle.arbitration.proofs.Tree.{highest-below, highest-ge}
+use Rattle.arbitration.proofs.LeastCore.{least-below, least-le}
 use Rattle.lists.proofs.Bools.{and-in, and-l, and-r, Flag, on, off, flag, clash}
 use Rattle.lists.proofs.Walks.{below-suc}
 

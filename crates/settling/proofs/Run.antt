@@ -10,9 +10,8 @@ use Rattle.model.specs.declared.Controller.{Controller}
 use Rattle.model.specs.declared.Cycle.{Cycle}
 use Rattle.model.specs.declared.Cycle.the-variants.{Rest}
 use Rattle.model.specs.Requests.{claimed}
-use Rattle.model.specs.WellFormed.{WellFormed}
 use Rattle.model.specs.Settling.{next, apply, cycle, settle, isRetraction, isDelivery, countOf, cyclesOf}
-use Rattle.settling.specs.Phases.{Ended}
+use Rattle.settling.specs.Phases.{Strict, Ended}
 
 pub cycle-is : (s : Controller) (c : Cycle) → next s ≡ c → cycle s ≡ apply c s
 unfolding cycle
@@ -35,10 +34,10 @@ module _ (s : Controller) (rest : next s ≡ Rest) where
   unfolding cyclesOf
   cyclesOf-rest f = omega (arith, count-rest isRetraction refl f, count-rest isDelivery refl f)
 
-  pub ended-here : WellFormed s → (f : ℕ) → Ended s f 0 0
+  pub ended-here : Strict s → (f : ℕ) → Ended s f 0 0
   ended-here w f =
       record {
-        wellFormed = rw settle-rest w;
+        strict = rw settle-rest w;
         rests = rw settle-rest rest;
         retractions = omega (arith, count-rest isRetraction refl f);
         deliveries = omega (arith, count-rest isDelivery refl f);
@@ -61,7 +60,7 @@ module _ (s : Controller) (c : Cycle) (e : next s ≡ c) where
       Ended s (suc f) (isRetraction c + r) (isDelivery c + d)
   ended-step n-same kept {f} {r} {d} end =
       record {
-        wellFormed = rw settle-step (end .wellFormed);
+        strict = rw settle-step (end .strict);
         rests = rw settle-step (end .rests);
         retractions = omega (arith, count-step isRetraction f, end .retractions);
         deliveries = omega (arith, count-step isDelivery f, end .deliveries);
@@ -73,7 +72,7 @@ module _ (s : Controller) (c : Cycle) (e : next s ≡ c) where
 pub ended-within : {s : Controller} {f r d : ℕ} → Ended s f r d → (r′ d′ : ℕ) → r ≤ r′ → d ≤ d′ → Ended s f r′ d′
 ended-within end r′ d′ p q =
     record {
-      wellFormed = end .wellFormed;
+      strict = end .strict;
       rests = end .rests;
       retractions = omega arith;
       deliveries = omega arith;

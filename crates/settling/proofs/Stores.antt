@@ -14,8 +14,7 @@ use Rattle.model.specs.declared.Source.{Source}
 use Rattle.model.specs.declared.Core.{Core}
 use Rattle.model.specs.declared.Controller.{Controller}
 use Rattle.model.specs.Records.{maxSources, noSource, noCore, sourceId, withDelivered, holding, coreWith, sourceAt, coreAt, withSources, withSource, withCore}
-use Rattle.model.specs.Requests.{currentPriority}
-use Rattle.model.specs.Arbitration.{rank}
+use Rattle.model.specs.Arbitration.{rank, coreKey}
 use Rattle.model.specs.Settling.{putBack, deliver}
 use Rattle.model.specs.WellFormed.{Holding}
 use Rattle.lists.proofs.Filling.{filled-written}
@@ -30,7 +29,7 @@ rank-delivered r = simp and-false
 pub record PutBack (s : Controller) (k : ℕ) (ks₁ : List ℕ) (s₁ : Controller) : Type 0 where
   pub state-is : s₁ ≡ withSources s (putBack ((coreAt s k) .message) (s .sources))
   pub ranks : RanksOf (s₁ .sources) (s .n) ks₁
-  pub keys-length : length ks₁ ≡ maxSources
+  pub ranks-length : length ks₁ ≡ maxSources
 
 module _ {s : Controller} {i k : ℕ} (a : Arbitrated s i k) {ks cs : List ℕ} (keyed : Keyed s ks cs) where
   -- ---- the request in the box goes back
@@ -54,8 +53,8 @@ module _ {s : Controller} {i k : ℕ} (a : Arbitrated s i k) {ks cs : List ℕ} 
           state-is = rw (sub-one, filled);
           ranks =
               filled-written rank noSource (s .sources) (s .n) ks (keyed .ranks) old (withDelivered false (sourceAt s old)) v
-              (omega (arith, old-in, a .consistent .sources-length)) (omega (arith, old-in, keyed .keys-length)) e;
-          keys-length = length-set ks old v ∙ keyed .keys-length;
+              (omega (arith, old-in, a .consistent .sources-length)) (omega (arith, old-in, keyed .ranks-length)) e;
+          ranks-length = length-set ks old v ∙ keyed .ranks-length;
         }
 
     pub back-filled :
@@ -65,7 +64,7 @@ module _ {s : Controller} {i k : ℕ} (a : Arbitrated s i k) {ks cs : List ℕ} 
 
   pub back-empty : (coreAt s k) .message .filled ≡ false → (ks₁ : List ℕ) (s₁ : Controller) → ks₁ ≡ ks → s₁ ≡ s → PutBack s k ks₁ s₁
   back-empty empty ks₁ s₁ p q =
-      rw (p, q) (record { state-is = rw empty; ranks = keyed .ranks; keys-length = keyed .keys-length })
+      rw (p, q) (record { state-is = rw empty; ranks = keyed .ranks; ranks-length = keyed .ranks-length })
 
   -- ---- the candidate's mark, and the box
 
@@ -77,26 +76,27 @@ module _ {s : Controller} {i k : ℕ} (a : Arbitrated s i k) {ks cs : List ℕ} 
         (source-putBack ((coreAt s k) .message) (s .sources) i ∙
         putBackAt-unnamed ((coreAt s k) .message) i (sourceAt s i) (not-held a k (a .won .core-in)))
 
-    pub stores-are :
-        (d : Core) → d ≡ coreWith ((coreAt s k) .configured) (holding (sourceId (i + 1)) ((sourceAt s₁ i) .priority)) →
-        withCore (withSource s₁ i (withDelivered true (sourceAt s₁ i))) k d ≡ deliver s i k
-    unfolding deliver
-    stores-are d e = rw (e, source-same, b .state-is, add-one)
+    -- the core's record as the code makes it
+    module _ (d : Core) (e : d ≡ coreWith ((coreAt s k) .configured) (holding (sourceId (i + 1)) ((sourceAt s₁ i) .priority))) where
+      core-is : d ≡ delivered-to s i k
+      core-is = rw (e, source-same, add-one)
 
-    pub keyed-delivered : Keyed (deliver s i k) (set ks₁ i 0) (set cs k ((sourceAt s₁ i) .priority))
-    unfolding deliver
-    keyed-delivered =
-        record {
-          ranks =
-              filled-written rank noSource (putBack ((coreAt s k) .message) (s .sources)) (s .n) ks₁ (rw (b .state-is) at (b .ranks))
-              i (withDelivered true (sourceAt s i)) 0
-              (rw length-putBack (index-in a)) (omega (arith, b .keys-length, a .won .source-in, a .consistent .n-le))
-              (rank-delivered (sourceAt s i));
-          currents =
-              filled-written currentPriority noCore (s .cores) (s .m) cs (keyed .currents) k (delivered-to s i k)
-              ((sourceAt s₁ i) .priority)
-              (number-in a) (omega (arith, keyed .currents-length, a .won .core-in, a .consistent .m-le))
-              (ap (λ (r : Source). r .priority) source-same);
-          keys-length = length-set ks₁ i 0 ∙ b .keys-length;
-          currents-length = length-set cs k ((sourceAt s₁ i) .priority) ∙ keyed .currents-length;
-        }
+      pub stores-are : withCore (withSource s₁ i (withDelivered true (sourceAt s₁ i))) k d ≡ deliver s i k
+      unfolding deliver
+      stores-are = rw (core-is, source-same, b .state-is)
+
+      pub keyed-delivered : (v : ℕ) → v ≡ coreKey d → Keyed (deliver s i k) (set ks₁ i 0) (set cs k v)
+      unfolding deliver
+      keyed-delivered v is =
+          record {
+            ranks =
+                filled-written rank noSource (putBack ((coreAt s k) .message) (s .sources)) (s .n) ks₁ (rw (b .state-is) at (b .ranks))
+                i (withDelivered true (sourceAt s i)) 0
+                (rw length-putBack (index-in a)) (omega (arith, b .ranks-length, a .won .source-in, a .consistent .n-le))
+                (rank-delivered (sourceAt s i));
+            cores =
+                filled-written coreKey noCore (s .cores) (s .m) cs (keyed .cores) k (delivered-to s i k) v
+                (number-in a) (omega (arith, keyed .cores-length, a .won .core-in, a .consistent .m-le)) (is ∙ ap coreKey core-is);
+            ranks-length = length-set ks₁ i 0 ∙ b .ranks-length;
+            cores-length = length-set cs k v ∙ keyed .cores-length;
+          }

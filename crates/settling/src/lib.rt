@@ -53,21 +53,21 @@ pub fn deliver_all(s: Controller, spent: u16) -> Reached
         keys[i] = records::rank(s.sources[i]);
         i += 1;
     }
-    let mut currents = [0u16; CORES];
+    let mut core_keys = [0u32; CORES];
     let mut j = 0;
     while j < m {
-        currents[j] = records::current_priority(s.cores[j]);
+        core_keys[j] = records::core_key(s.cores[j]);
         j += 1;
     }
     let mut state = s;
     let mut t = 0u16;
     while t < s.m {
         let at = arbitration::highest(&keys, 0, n);
-        let k = arbitration::least(&currents, m);
-        if keys[at] <= currents[k] as u32 + 1 {
+        let k = arbitration::least(&core_keys, m);
+        let c = state.cores[k];
+        if keys[at] <= records::current_priority(c) as u32 + 1 {
             break;
         }
-        let c = state.cores[k];
         if c.message.filled {
             let old = c.message.source.0 as usize - 1;
             let mut evicted = state.sources[old];
@@ -79,8 +79,9 @@ pub fn deliver_all(s: Controller, spent: u16) -> Reached
         r.delivered = true;
         state.sources[at] = r;
         keys[at] = 0;
-        state.cores[k] = records::filled_with(c, SourceId(at as u16 + 1), r.priority);
-        currents[k] = r.priority;
+        let taken = records::filled_with(c, SourceId(at as u16 + 1), r.priority);
+        state.cores[k] = taken;
+        core_keys[k] = records::core_key(taken);
         t += 1;
     }
     Reached {

@@ -56,4 +56,5 @@ hollow-otherwise =
           };
       box-priority = λ k below f. clash f (empty k below);
       none-higher = λ P p. none-higher P;
+      fewest-boxes = λ P p e. omega arith;
     }

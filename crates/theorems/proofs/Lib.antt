@@ -14,6 +14,7 @@ pub mod CoreMatching
 pub mod Matching
 pub mod Filled
 pub mod Placements
+pub mod Fewest
 pub mod MatchedStrict
 pub mod DemandThree
 pub mod LentClaim

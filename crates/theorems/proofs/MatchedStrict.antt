@@ -1,4 +1,4 @@
--- A sound state that the ledger matches is priority-strict. Assumes nothing.
+-- A sound state that the ledger matches is priority-strict; that no placement fills fewer boxes is `Fewest`'s. Assumes nothing.
 -- At each threshold either every core's current priority is at or above it, or some core's is below it, and then so is everything in
 -- the collection that no core shows: the candidates' priorities, and the configured priorities under filled boxes.
 use Prim.Native.Nat.{ℕ, suc, _+_, _≤_, _<_, min}
@@ -25,6 +25,7 @@ use Rattle.lists.proofs.Counts.{Sent, nowhere, to, total-sent, count, count-one
 use Rattle.theorems.proofs.Placements.{offered, collection-count, collection-length, Competing, competes-out, placement-count}
 use Rattle.theorems.proofs.Requests.{pending-priority, unboxed-waits}
 use Rattle.theorems.proofs.Filled.{current-given, box-priority, boxes-placed}
+use Rattle.theorems.proofs.Fewest.{fewest}
 use Rattle.lists.proofs.Sorting.{sorted-le, top-of}
 
 module _ (b : Ledger) (s : Controller) where
@@ -137,6 +138,7 @@ module _ (b : Ledger) (s : Controller) where
           current-given = current-given b s w match;
           none-higher = λ P p. sorted-le (row (s .m) (given b P)) currents
               (λ t. omega (arith, currents-count t, row-count-le t (s .m) (given b P), placement-count t (s .n) (s .m) b s P p));
+          fewest-boxes = λ P p. fewest b s w match P;
         }
 
 pub matched-strict : MatchedStrict

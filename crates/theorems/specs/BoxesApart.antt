@@ -6,7 +6,7 @@ use mathlib.Core.Bool.{true}
 use lib.ListN.{getD, take}
 use Rattle.model.specs.declared.Controller.{Controller}
 use Rattle.model.specs.Records.{coreAt}
-use Rattle.model.specs.Ledger.{Ledger, collection, Placement, given, inBoxes, requestPriority, currentPriorities}
+use Rattle.model.specs.Ledger.{Ledger, collection, Placement, given, inBoxes, requestPriority, currentPriorities, placedBy, filledBoxes}
 use Rattle.lists.specs.Rows.{row}
 use Rattle.lists.specs.Sorting.{sortDown}
 
@@ -20,3 +20,5 @@ pub record BoxesApart (n m : ℕ) (b : Ledger) (s : Controller) : Type 0 where
       (1 ≤ (coreAt s k) .message .source .0) × ((coreAt s k) .message .priority ≡ requestPriority b ((coreAt s k) .message .source .0))
   pub none-higher :
       (P : ℕ → ℕ) → Placement n m b s P → (j : ℕ) → getD (sortDown (row m (given b P))) j 0 ≤ getD (sortDown (currentPriorities m s)) j 0
+  pub fewest-boxes :
+      (P : ℕ → ℕ) → Placement n m b s P → sortDown (row m (given b P)) ≡ sortDown (currentPriorities m s) → filledBoxes m s ≤ placedBy m P

@@ -1,19 +1,23 @@
 -- Wrong controllers: the dummies of document 01, and some that a weaker statement would let pass. Definitions only; nothing here
 -- needs to be believed. Each is a function from a state and a command to an answer, as `execute` is.
 -- Source: document 01, "How tight each statement is" and "Numbers for no".
-use Prim.Native.Nat.{ℕ, suc, _*_}
+use Prim.Native.Nat.{ℕ, zero, suc, _*_}
 use mathlib.Core.List.{map}
 use mathlib.Core.Bool.{Bool, true, _&&_, cond}
-use lib.Dec.{eqb}
+use lib.Dec.{ltb, eqb}
 use Rattle.model.specs.declared.Core.{Core}
 use Rattle.model.specs.declared.Controller.{Controller}
+use Rattle.model.specs.declared.Cycle.{Cycle}
+use Rattle.model.specs.declared.Cycle.the-variants.{Retract}
 use Rattle.model.specs.declared.Command.{Command}
 use Rattle.model.specs.declared.Command.the-variants.{OnSource, OnCore}
 use Rattle.model.specs.declared.SourceAction.the-variants.{SetSourcePriority, Mask, Unmask, Trigger, Redeliver, Complete}
-use Rattle.model.specs.Records.{indexOf, sourceAt, coreAt, withDelivered, emptyBox, coreWith, controllerWith, withCores, withSource, reset, answer}
+use Rattle.model.specs.Records.{coreId, indexOf, sourceAt, coreAt, withDelivered, emptyBox, coreWith, controllerWith, withCores, withSource, reset, answer}
 use Rattle.model.specs.Requests.{currentPriority}
-use Rattle.lists.specs.Walks.{some}
-use Rattle.model.specs.Commands.{sourceRefusal, coreRefusal, effect, answeredId, execute}
+use Rattle.lists.specs.Walks.{some, walk}
+use Rattle.model.specs.Arbitration.{highest}
+use Rattle.model.specs.Settling.{firstDirty, arbitrate, apply}
+use Rattle.model.specs.Commands.{sourceRefusal, coreRefusal, refusal, effect, answeredId, execute}
 use Rattle.model.specs.Behaviours.{Behaviour}
 
 -- ---- the dummies of document 01
@@ -71,6 +75,25 @@ hollow = handingBack (λ s. withCores s (map raised (s .cores)))
 -- Each state handed back has a source more than the one before.
 abbrev pub growing : Behaviour
 growing = handingBack (λ s. controllerWith (suc (s .n)) (s .m) (s .sources) (s .cores))
+
+-- ---- a controller that disturbs a core too many
+
+-- A tie between cores falls to the lowest number, whatever their boxes hold: document 01's rule before request 2.
+abbrev pub nextByNumber : Controller → Cycle
+nextByNumber s =
+    cond
+    (ltb (firstDirty (s .cores) (s .m)) (s .m))
+    (Retract (coreId (firstDirty (s .cores) (s .m))))
+    (arbitrate s (highest (s .sources) (s .n)) (walk (λ j k. ltb (currentPriority (coreAt s j)) (currentPriority (coreAt s k))) (s .m)))
+
+unfoldable pub settleByNumber : ℕ → Controller → Controller
+settleByNumber zero s = s
+settleByNumber (suc f) s = settleByNumber f (apply (nextByNumber s) s)
+
+abbrev pub tieToLowest : Behaviour
+tieToLowest s c =
+    cond (eqb (refusal s c) 0)
+    (answer (settleByNumber (2 * s .m) (effect s c)) 0 (answeredId s c) ((execute s c) .cycles)) (execute s c)
 
 -- ---- controllers that refuse wrongly
 

@@ -51,7 +51,7 @@ module _ (v : Surveyed) (l : List Source) (n top : ℕ) where
   sources-refused r = rw (sym (refused (sources-sound-exact l n top) r))
 
   pub sources-passed : SourcesSound l n top →
-      surveyWith true (v .clean) (v .lowest) (v .covered) (greatestWaiting l n) ≡ sourcesSurvey v l n top
+      surveyWith true (v .clean) (v .lowest) (v .covered) (v .boxed) (greatestWaiting l n) ≡ sourcesSurvey v l n top
   unfolding sourcesSurvey
   sources-passed p = rw (sources-sound-exact l n top .1 p)
 

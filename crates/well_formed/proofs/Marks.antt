@@ -10,7 +10,7 @@ use mathlib.Core.Bool.{Bool, true, false, cond, _||_, or-false, and-false}
 use native.Mathlib.Omega.{arith}
 use native.Mathlib.Numerals.{add-one}
 use native.Mathlib.Decide.{ℕ-discrete}
-use lib.Dec.{ltb}
+use native.Mathlib.Nat.{le-of-lt}
 use lib.ListN.{length, getD, set, replicate, length-set, length-replicate, getD-replicate}
 use lib.Seq.{getD-set-same, getD-set-other}
 use borrow.Author.Count.{below-more}
@@ -21,8 +21,9 @@ use Rattle.model.specs.Records.{maxSources, noCore, coreAt}
 use Rattle.model.specs.Priorities.{topPriority}
 use Rattle.lists.specs.Walks.{every, some, walk}
 use Rattle.model.specs.Requests.{currentPriority, holds, boxed}
-use Rattle.model.specs.Arbitration.{least, leastPriority}
-use Rattle.well_formed.specs.Survey.{surveyWith, greatest}
+use Rattle.model.specs.Arbitration.{lower, least, leastPriority}
+use Rattle.arbitration.proofs.LeastCore.{key-le}
+use Rattle.well_formed.specs.Survey.{surveyWith, unboxed, greatest, lowest}
 use Rattle.well_formed.specs.Loops.{withCore, coresTo}
 use Rattle.lists.proofs.Bools.{or-in-r}
 use Rattle.model.proofs.Boxes.{holds-in, holds-filled, holds-source, boxed-out}
@@ -133,18 +134,20 @@ module _ (l : List Core) where
   abbrev currentAt : ℕ → ℕ
   currentAt k = currentPriority (getD l k noCore)
 
-  winner-min : (w k : ℕ) (y : Bool) → ltb (currentAt k) (currentAt w) ≡ y → currentAt (cond y k w) ≡ min (currentAt w) (currentAt k)
-  winner-min w k true e = omega (arith, ltb-true (currentAt k) (currentAt w) e)
-  winner-min w k false e = omega (arith, ltb-false (currentAt k) (currentAt w) e)
+  -- of two cores the one with the lower key has the lower current priority, or the same
+  winner-min : (w k : ℕ) (y : Bool) → lower l k w ≡ y → currentAt (cond y k w) ≡ min (currentAt w) (currentAt k)
+  winner-min w k true e =
+      omega (arith, key-le (getD l k noCore) (getD l w noCore) (le-of-lt (ltb-true _ _ e)))
+  winner-min w k false e = omega (arith, key-le (getD l w noCore) (getD l k noCore) (ltb-false _ _ e))
 
   least-more : (k : ℕ) → leastPriority l (suc k) ≡ min (leastPriority l k) (currentAt k)
   unfolding leastPriority least walk
   least-more k = winner-min (least l k) k _ refl
 
-  pub cores-begin : surveyWith true true (currentAt 0) 0 0 ≡ coresTo l 0
-  unfolding every greatest leastPriority least walk
+  pub cores-begin : surveyWith true true (currentAt 0) 0 unboxed 0 ≡ coresTo l 0
+  unfolding every greatest lowest leastPriority least walk
   cores-begin = refl
 
   pub cores-more : (k : ℕ) → withCore (coresTo l k) (getD l k noCore) ≡ coresTo l (k + 1)
-  unfolding withCore every greatest
+  unfolding withCore every greatest lowest
   cores-more k = rw (add-one, least-more k)

@@ -71,6 +71,7 @@ reset-wellFormed n m r =
             candidates-settled = λ i k g h e. clash e (ap candidate (source i g));
             covered-settled = λ j k g h e. clash e (empty j);
           };
+      frugal = λ j k g h e f. clash e (empty j);
     }
 
 pub makes-exactly : MakesExactly

@@ -3,13 +3,13 @@
 --   wellFormed-out, wellFormed-in    the two directions
 --   test-exact                       both
 --   layers-exact                     the same of each layer
---   consistent-exact                 the first of them
+--   consistent-exact, frugal-exact   the first and the last of them
 use Rattle.model.specs.Statements.{LayersExact, TestExact}
-use Rattle.model.specs.WellFormed.{Quiet, quiet, consistent, Consistent, Clean, listsWhole, sourcesInRange, coresInRange, sparesReset, boxesBacked, boxesDistinct, boxesClean, candidatesSettled, coveredSettled, wellFormed, WellFormed, Holding}
+use Rattle.model.specs.WellFormed.{Frugal, frugal, Quiet, quiet, consistent, Consistent, Clean, listsWhole, sourcesInRange, coresInRange, sparesReset, boxesBacked, boxesDistinct, boxesClean, candidatesSettled, coveredSettled, wellFormed, WellFormed, Holding}
 use Prim.Native.Nat.{ℕ, _<_, _≤_}
 use mathlib.Core.Path.{_≡_, sym}
 use mathlib.Core.Logic.{_↔_, Iff·trans}
-use mathlib.Core.Bool.{true, _&&_}
+use mathlib.Core.Bool.{Bool, true, _&&_}
 use mathlib.Core.List.{List}
 use lib.ListN.{length, getD}
 use lib.Dec.{leb}
@@ -22,9 +22,9 @@ use Rattle.model.specs.Records.{maxSources, maxCores, noCore, resetSource, rese
 use Rattle.model.specs.Priorities.{topPriority}
 use Rattle.model.specs.Requests.{currentPriority, candidate}
 use Rattle.model.specs.Arbitration.{least, leastPriority}
-use Rattle.arbitration.proofs.Tree.{least-le, least-below}
+use Rattle.arbitration.proofs.LeastCore.{least-le, least-below}
 use Rattle.lists.proofs.Bools.{and-in, and-l, and-r}
-use Rattle.lists.proofs.Exact.{Exact, _and_, not-exact, leb-exact, eqb-exact, refuted-exact, implies-exact, from-exact, every-exact}
+use Rattle.lists.proofs.Exact.{Exact, _and_, not-exact, leb-exact, ltb-exact, eqb-exact, refuted-exact, implies-exact, from-exact, every-exact}
 use Rattle.well_formed.proofs.Clauses.{sizes-exact, SourceFits, source-exact, CoreFits, core-exact, reset-source-exact, reset-core-exact, backed-exact, SameSource, same-source-exact}
 
 -- a symmetric relation holds between no two numbers below m if it holds from none to a larger one
@@ -164,25 +164,40 @@ quiet-exact s some =
       λ q. (λ i a c k b. q .candidates-settled i k a b c, λ j a e k b. q .covered-settled j k a b e),
     )
 
+pub frugal-exact : (s : Controller) → Exact (frugal s) (Frugal s)
+unfolding frugal
+frugal-exact s =
+    Iff·trans
+    (every-exact (s .m) (λ j.
+    implies-exact ((coreAt s j) .message .filled)
+    (every-exact (s .m) (λ k.
+    implies-exact ((coreAt s k) .message .filled) (ltb-exact ((coreAt s j) .configured) ((coreAt s k) .message .priority))))))
+    (λ f j k a b p q. f j a p k b q, λ f j a p k b q. f j k a b p q)
+
 pub wellFormed-out : (s : Controller) → wellFormed s ≡ true → WellFormed s
 unfolding wellFormed
 wellFormed-out s e =
-    let front : consistent s && boxesClean s ≡ true = and-l (consistent s && boxesClean s) (quiet s) e in
-    let c : Consistent s = consistent-exact s .0 (and-l (consistent s) (boxesClean s) front) in
+    let first : Bool = consistent s && boxesClean s in
+    let three : first && quiet s ≡ true = and-l (first && quiet s) (frugal s) e in
+    let two : first ≡ true = and-l first (quiet s) three in
+    let c : Consistent s = consistent-exact s .0 (and-l (consistent s) (boxesClean s) two) in
     record {
       consistent = c;
-      clean = clean-exact s .0 (and-r (consistent s) (boxesClean s) front);
-      quiet = quiet-exact s (c .some-core) .0 (and-r (consistent s && boxesClean s) (quiet s) e);
+      clean = clean-exact s .0 (and-r (consistent s) (boxesClean s) two);
+      quiet = quiet-exact s (c .some-core) .0 (and-r first (quiet s) three);
+      frugal = frugal-exact s .0 (and-r (first && quiet s) (frugal s) e);
     }
 
 pub wellFormed-in : (s : Controller) → WellFormed s → wellFormed s ≡ true
 unfolding wellFormed
 wellFormed-in s w =
-    and-in (and-in (consistent-exact s .1 (w .consistent)) (clean-exact s .1 (w .clean)))
-    (quiet-exact s (w .consistent .some-core) .1 (w .quiet))
+    and-in
+    (and-in (and-in (consistent-exact s .1 (w .consistent)) (clean-exact s .1 (w .clean)))
+    (quiet-exact s (w .consistent .some-core) .1 (w .quiet)))
+    (frugal-exact s .1 (w .frugal))
 
 pub layers-exact : LayersExact
-layers-exact s = (consistent-exact s, clean-exact s, quiet-exact s)
+layers-exact s = (consistent-exact s, clean-exact s, quiet-exact s, frugal-exact s)
 
 pub test-exact : TestExact
 test-exact s = (wellFormed-out s, wellFormed-in s)

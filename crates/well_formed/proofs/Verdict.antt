@@ -4,25 +4,30 @@
 --   cores-consistent        the pass over the cores tells whether they are sound
 --   survey-passes           the survey of a state whose cores are sound, from the two passes
 --   survey-consistent       a survey tells whether the state is consistent
---   well-formed-exact       and whether it is well formed: it is consistent and clean, and nothing is above the least current priority
-use Prim.Native.Nat.{ℕ, zero, suc, _≤_, max}
-use mathlib.Core.Path.{_≡_, refl, sym, _∙_, ap}
+--   greatest-le, greatest-lt, lowest-le, lowest-gt    the greatest and the least of a row
+--   well-formed-exact       and whether it is well formed: it is consistent and clean, nothing is above the least current priority, and
+--                           every covered priority is below every box's
+use Prim.Native.Nat.{ℕ, zero, suc, _<_, _≤_, min, max}
+use mathlib.Core.Path.{_≡_, refl, sym, _∙_, ap, ap₂}
 use mathlib.Core.Bool.{Bool, true, false, not, cond, _&&_, _||_}
 use lib.ListN.{length}
-use lib.Dec.{leb}
+use lib.Dec.{leb, ltb}
 use native.Mathlib.Omega.{arith}
+use native.Mathlib.Decide.{ℕ-discrete}
 use borrow.Author.Tests.{le-leb}
 use Rattle.model.specs.declared.Controller.{Controller}
-use Rattle.model.specs.Records.{maxSources, maxCores}
+use Rattle.model.specs.Records.{maxSources, maxCores, coreAt}
 use Rattle.model.specs.Priorities.{topPriority}
-use Rattle.model.specs.WellFormed.{consistent, Consistent, boxesClean, candidatesSettled, coveredSettled, quiet, wellFormed}
+use Rattle.model.specs.WellFormed.{consistent, Consistent, boxesClean, candidatesSettled, coveredSettled, quiet, Frugal, frugal, wellFormed}
 use Rattle.model.specs.Statements.{InRange}
 use Rattle.lists.specs.Walks.{every}
+use Rattle.lists.proofs.Bools.{Flag, on, off, flag}
+use Rattle.model.proofs.Priorities.{top-lt}
 use Rattle.well_formed.specs.declared.Surveyed.{Surveyed}
-use Rattle.well_formed.specs.Survey.{inconsistentSurvey, greatest, shown, surveyOf}
+use Rattle.well_formed.specs.Survey.{inconsistentSurvey, unboxed, greatest, lowest, coveredPriority, boxedPriority, shown, surveyOf}
 use Rattle.well_formed.specs.Loops.{coresSound, coresSurvey, bothSound, sourcesSurvey}
-use Rattle.lists.proofs.Exact.{Exact, _and_, flag-exact, leb-exact, given, agree}
-use Rattle.well_formed.proofs.Test.{sources-apart, consistent-exact}
+use Rattle.lists.proofs.Exact.{Exact, _and_, flag-exact, leb-exact, ltb-exact, given, agree}
+use Rattle.well_formed.proofs.Test.{sources-apart, consistent-exact, frugal-exact}
 use Rattle.well_formed.proofs.Fits.{SourcesSound, sources-sound-exact}
 use Rattle.well_formed.proofs.Cores.{CoresSound, cores-sound-exact}
 
@@ -116,17 +121,95 @@ abbrev settled : Surveyed → Bool
 settled v = leb (v .waiting) (v .lowest) && leb (v .covered) (v .lowest)
 
 abbrev verdict : Surveyed → Bool
-verdict v = v .consistent && v .clean && settled v
+verdict v = v .consistent && v .clean && settled v && ltb (v .covered) (v .boxed)
 
 -- the survey says that the state is well formed
 abbrev pub Passed : Surveyed → Type 0
 Passed v =
-    ((v .consistent ≡ true) × (v .clean ≡ true)) × ((v .waiting ≤ v .lowest) × (v .covered ≤ v .lowest))
+    (((v .consistent ≡ true) × (v .clean ≡ true)) × ((v .waiting ≤ v .lowest) × (v .covered ≤ v .lowest))) × (v .covered < v .boxed)
 
 verdict-exact : (v : Surveyed) → Exact (verdict v) (Passed v)
 verdict-exact v =
     flag-exact (v .consistent) and
-    flag-exact (v .clean) and (leb-exact (v .waiting) (v .lowest) and leb-exact (v .covered) (v .lowest))
+    flag-exact (v .clean) and
+    (leb-exact (v .waiting) (v .lowest) and leb-exact (v .covered) (v .lowest)) and ltb-exact (v .covered) (v .boxed)
+
+-- ---- the greatest and the least of a row
+
+pub greatest-le : (n : ℕ) (f : ℕ → ℕ) (i : ℕ) → i < n → f i ≤ greatest n f
+unfolding greatest
+greatest-le zero f i h = absurd (omega arith)
+greatest-le (suc k) f i h = go (ℕ-discrete i k) (greatest-le k f i)
+  where
+    go : Dec (i ≡ k) → (i < k → f i ≤ greatest k f) → f i ≤ max (greatest k f) (f k)
+    go (yes e) rest = rw e (omega arith)
+    go (no d) rest = omega (arith, rest (omega arith))
+
+pub greatest-lt : (n : ℕ) (f : ℕ → ℕ) (x : ℕ) → 0 < x → ((i : ℕ) → i < n → f i < x) → greatest n f < x
+unfolding greatest
+greatest-lt zero f x p h = p
+greatest-lt (suc k) f x p h = omega (arith, greatest-lt k f x p (λ i q. h i (omega arith)), h k (omega arith))
+
+lowest-le : (n : ℕ) (f : ℕ → ℕ) (i : ℕ) → i < n → lowest n f ≤ f i
+unfolding lowest
+lowest-le zero f i h = absurd (omega arith)
+lowest-le (suc k) f i h = go (ℕ-discrete i k) (lowest-le k f i)
+  where
+    go : Dec (i ≡ k) → (i < k → lowest k f ≤ f i) → min (lowest k f) (f k) ≤ f i
+    go (yes e) rest = rw e (omega arith)
+    go (no d) rest = omega (arith, rest (omega arith))
+
+lowest-gt : (n : ℕ) (f : ℕ → ℕ) (x : ℕ) → x < unboxed → ((i : ℕ) → i < n → x < f i) → x < lowest n f
+unfolding lowest
+lowest-gt zero f x p h = p
+lowest-gt (suc k) f x p h = omega (arith, lowest-gt k f x p (λ i q. h i (omega arith)), h k (omega arith))
+
+-- ---- the last layer, of a consistent state
+
+module _ (s : Controller) (c : Consistent s) where
+  abbrev covered : ℕ → ℕ
+  covered k = coveredPriority (coreAt s k)
+
+  abbrev boxed : ℕ → ℕ
+  boxed k = boxedPriority (coreAt s k)
+
+  small : (k : ℕ) → k < s .m → (coreAt s k) .configured < unboxed
+  small k h =
+      omega (arith, c .configured-core k h, top-lt (s .n) (c .some-source) (omega (arith, c .n-le)), c .n-le)
+
+  -- each covered priority is below each box's
+  apart : Frugal s → (j k : ℕ) → j < s .m → k < s .m → covered j < boxed k
+  apart f j k p q = go (flag ((coreAt s j) .message .filled)) (flag ((coreAt s k) .message .filled))
+    where
+      go : Flag ((coreAt s j) .message .filled) → Flag ((coreAt s k) .message .filled) → covered j < boxed k
+      go (on u) (on v) = rw (u, v) (f j k p q u v)
+      go (on u) (off v) = rw (u, v) (small j p)
+      go (off u) (on v) = rw (u, v) (omega (arith, f k k q q v v))
+      go (off u) (off v) = rw (u, v) (omega arith)
+
+  frugal-in : Frugal s → greatest (s .m) covered < lowest (s .m) boxed
+  frugal-in f = lowest-gt (s .m) boxed (greatest (s .m) covered)
+      (greatest-lt (s .m) covered unboxed (omega arith) (λ j p. under j p))
+      (λ k q. greatest-lt (s .m) covered (boxed k) (positive k q) (λ j p. apart f j k p q))
+    where
+      under : (j : ℕ) → j < s .m → covered j < unboxed
+      under j p = go (flag ((coreAt s j) .message .filled))
+        where
+          go : Flag ((coreAt s j) .message .filled) → covered j < unboxed
+          go (on u) = rw u (small j p)
+          go (off u) = rw u (omega arith)
+
+      positive : (k : ℕ) → k < s .m → 0 < boxed k
+      positive k q = omega (arith, apart f k k q q)
+
+  frugal-out : greatest (s .m) covered < lowest (s .m) boxed → Frugal s
+  frugal-out h j k p q u v =
+      let low : (coreAt s j) .configured ≤ greatest (s .m) covered = rw u at (greatest-le (s .m) covered j p) in
+      let high : lowest (s .m) boxed ≤ (coreAt s k) .message .priority = rw v at (lowest-le (s .m) boxed k q) in
+      omega arith
+
+  frugal-is : frugal s ≡ ltb (greatest (s .m) covered) (lowest (s .m) boxed)
+  frugal-is = agree (frugal-exact s) (ltb-exact _ _) frugal-in frugal-out
 
 module _ (s : Controller) where
   quiet-is : quiet s ≡ settled (shown s)
@@ -135,11 +218,12 @@ module _ (s : Controller) where
 
   well-formed-is : wellFormed s ≡ verdict (surveyOf s)
   unfolding surveyOf wellFormed
-  well-formed-is = go (consistent s)
+  well-formed-is = go (consistent s) refl
     where
-      go : (b : Bool) → b && boxesClean s && quiet s ≡ verdict (cond b (shown s) inconsistentSurvey)
-      go true = ap (λ (q : Bool). boxesClean s && q) quiet-is
-      go false = refl
+      go :
+          (b : Bool) → consistent s ≡ b → b && boxesClean s && quiet s && frugal s ≡ verdict (cond b (shown s) inconsistentSurvey)
+      go true e = ap₂ (λ (q f : Bool). boxesClean s && q && f) quiet-is (frugal-is s (consistent-exact s .0 e))
+      go false e = refl
 
   pub well-formed-exact : {v : Surveyed} → v ≡ surveyOf s → Exact (wellFormed s) (Passed v)
   well-formed-exact {v} e = given (verdict-exact v) (well-formed-is ∙ sym (ap verdict e))

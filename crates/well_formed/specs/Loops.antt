@@ -15,7 +15,7 @@ use Rattle.model.specs.Requests.{currentPriority}
 use Rattle.model.specs.Arbitration.{leastPriority}
 use Rattle.model.specs.WellFormed.{sourceInRange, coreInRange, isResetSource, isResetCore, isBacked, sameSource}
 use Rattle.well_formed.specs.declared.Surveyed.{Surveyed}
-use Rattle.well_formed.specs.Survey.{surveyWith, inconsistentSurvey, coveredPriority, greatestCovered, greatestWaiting}
+use Rattle.well_formed.specs.Survey.{surveyWith, inconsistentSurvey, coveredPriority, boxedPriority, greatestCovered, lowestBoxed, greatestWaiting}
 
 -- A source without a request.
 unfoldable pub isIdle : Source → Bool
@@ -49,12 +49,12 @@ coresSound s = every (s .m) (coreSound s) && every maxCores (spareCore (s .cores
 unfoldable pub withCore : Surveyed → Core → Surveyed
 withCore v c =
     surveyWith true (v .clean && not (c .message .dirty)) (min (v .lowest) (currentPriority c))
-    (max (v .covered) (coveredPriority c)) (v .waiting)
+    (max (v .covered) (coveredPriority c)) (min (v .boxed) (boxedPriority c)) (v .waiting)
 
 -- What the first k cores show.
 abbrev pub coresTo : List Core → ℕ → Surveyed
 coresTo l k =
-    surveyWith true (every k (λ j. not ((getD l j noCore) .message .dirty))) (leastPriority l k) (greatestCovered l k) 0
+    surveyWith true (every k (λ j. not ((getD l j noCore) .message .dirty))) (leastPriority l k) (greatestCovered l k) (lowestBoxed l k) 0
 
 unfoldable pub coresSurvey : Controller → Surveyed
 coresSurvey s = cond (coresSound s) (coresTo (s .cores) (s .m)) inconsistentSurvey
@@ -75,4 +75,4 @@ bothSound s = coresSound s && sourcesSound (s .sources) (s .n) (topPriority (s .
 -- What the cores have shown, with what the sources show.
 unfoldable pub sourcesSurvey : Surveyed → List Source → ℕ → ℕ → Surveyed
 sourcesSurvey v l n top =
-    cond (sourcesSound l n top) (surveyWith true (v .clean) (v .lowest) (v .covered) (greatestWaiting l n)) inconsistentSurvey
+    cond (sourcesSound l n top) (surveyWith true (v .clean) (v .lowest) (v .covered) (v .boxed) (greatestWaiting l n)) inconsistentSurvey

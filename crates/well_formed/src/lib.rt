@@ -7,7 +7,7 @@ ghost use Rattle.model.specs.Priorities.{topPriority};
 ghost use Rattle.lists.specs.Numbers.{between};
 ghost use Rattle.model.specs.WellFormed.{sizesInRange, isEmptyBox, isResetSource, isResetCore, consistent, wellFormed};
 ghost use Rattle.model.specs.Statements.{InRange};
-ghost use Rattle.well_formed.specs.Survey.{surveyWith, inconsistentSurvey, coveredPriority, surveyOf};
+ghost use Rattle.well_formed.specs.Survey.{surveyWith, inconsistentSurvey, coveredPriority, boxedPriority, surveyOf};
 ghost use Rattle.well_formed.specs.Loops.{isIdle, coreFits, backs, withCore, coresSurvey, sourcesSurvey};
 use model::CORES;
 use model::Controller;
@@ -15,6 +15,9 @@ use model::Core;
 use model::MessageBox;
 use model::SOURCES;
 use model::Source;
+
+// Above every priority: what stands for a box's priority where no box is filled.
+pub const UNBOXED: u16 = 65535;
 
 // What one pass over a state says of it. Where the state isn't consistent, every other field is false or 0.
 pub struct Surveyed {
@@ -26,6 +29,8 @@ pub struct Surveyed {
     pub lowest: u16,
     // the greatest configured priority under a filled box, 0 if no box is filled
     pub covered: u16,
+    // the least priority of a filled box, UNBOXED if no box is filled
+    pub boxed: u16,
     // the greatest priority of a candidate, 0 if there is none
     pub waiting: u16,
 }
@@ -161,6 +166,17 @@ fn covered_priority(c: Core) -> u16
     if c.message.filled { c.configured } else { 0 }
 }
 
+// The priority of a filled box; where the box is empty, one above every priority.
+fn boxed_priority(c: Core) -> u16
+    ensures { λ r. ⌜ r ≡ boxedPriority c ⌝ }
+{
+    if c.message.filled {
+        c.message.priority
+    } else {
+        UNBOXED
+    }
+}
+
 // ---- the survey's values. Every literal of one stands here.
 
 fn inconsistent() -> Surveyed
@@ -171,18 +187,20 @@ fn inconsistent() -> Surveyed
         clean: false,
         lowest: 0,
         covered: 0,
+        boxed: 0,
         waiting: 0,
     }
 }
 
-fn found(clean: bool, lowest: u16, covered: u16, waiting: u16) -> Surveyed
-    ensures { λ r. ⌜ r ≡ surveyWith true clean lowest covered waiting ⌝ }
+fn found(clean: bool, lowest: u16, covered: u16, boxed: u16, waiting: u16) -> Surveyed
+    ensures { λ r. ⌜ r ≡ surveyWith true clean lowest covered boxed waiting ⌝ }
 {
     Surveyed {
         consistent: true,
         clean,
         lowest,
         covered,
+        boxed,
         waiting,
     }
 }
@@ -199,7 +217,8 @@ fn with_core(v: Surveyed, c: Core) -> Surveyed
     }
     let lowest = lesser(v.lowest, records::current_priority(c));
     let covered = greater(v.covered, covered_priority(c));
-    found(clean, lowest, covered, v.waiting)
+    let boxed = lesser(v.boxed, boxed_priority(c));
+    found(clean, lowest, covered, boxed, v.waiting)
 }
 
 // The pass over the cores: those in use have priorities "0 to top" and boxes that are backed, each by a source of its own, and the others
@@ -210,7 +229,7 @@ fn survey_cores(s: Controller, top: u16) -> Surveyed
 {
     let m = s.m as usize;
     let mut seen = [false; SOURCES];
-    let mut v = found(true, records::current_priority(s.cores[0]), 0, 0);
+    let mut v = found(true, records::current_priority(s.cores[0]), 0, UNBOXED, 0);
     let mut k = 0;
     while k < m {
         let c = s.cores[k];
@@ -286,7 +305,7 @@ fn survey_sources(v: Surveyed, sources: [Source; SOURCES], n: usize, top: u16) -
     if !fresh {
         return inconsistent();
     }
-    found(v.clean, v.lowest, v.covered, waiting)
+    found(v.clean, v.lowest, v.covered, v.boxed, waiting)
 }
 
 // One pass over a state. Sizes, ids and priorities may be anything that their fields can hold.
@@ -314,7 +333,7 @@ pub fn is_consistent(s: Controller) -> bool
     v.consistent
 }
 
-// Whether a state is sound: document 01, "A sound state".
+// Whether a state is sound: document 01, "A sound state", with document 02's clause, request 2.
 pub fn well_formed(s: Controller) -> bool
     ensures { λ r. ⌜ r ≡ wellFormed s ⌝ }
 {
@@ -328,5 +347,8 @@ pub fn well_formed(s: Controller) -> bool
     if v.lowest < v.waiting {
         return false;
     }
-    v.covered <= v.lowest
+    if v.lowest < v.covered {
+        return false;
+    }
+    v.covered < v.boxed
 }

@@ -52,6 +52,27 @@ fn the_worked_example_is_as_stored() {
     assert_eq!(answered(&[&SIZES[..], &["-"]].concat(), input).1, stored);
 }
 
+/// Document 02's run of request 2/14: the request of 9 goes to the core whose box is filled already.
+#[test]
+fn the_fewest_cores_are_interrupted() {
+    let settings = "set source 3 to 3\nunmask 3\nset source 9 to 9\nunmask 9\n";
+    let run = "set core 0 to 3\nset core 1 to 1\ntrigger 3\ntrigger 9\n";
+    let input = [settings, run].concat();
+    let (status, out, err) = answered(
+        &["run", "--sources", "32", "--cores", "2"],
+        input.as_bytes(),
+    );
+    assert_eq!((status, err.as_str()), (0, ""));
+    let expected = "\
+set core 0 to 3: accepted, 0 cycles, [3,0]
+set core 1 to 1: accepted, 0 cycles, [3,1]
+trigger 3: accepted, 1 cycle, [3,3]  3: box 1
+trigger 9: accepted, 1 cycle, [3,9]  3: source  9: box 1
+";
+    let printed: Vec<&str> = out.lines().skip(4).collect();
+    assert_eq!(printed, expected.lines().collect::<Vec<&str>>());
+}
+
 /// A refused command is an answer, and the run goes on.
 #[test]
 fn a_refusal_is_answered_in_words() {

@@ -1,5 +1,6 @@
-/* The header against the library, in C and in C++: T2 to T8 of document 01's table by the typed commands, every accessor, a list, the
- * calls on lent records, document 01's recording read and replayed, refusals of each kind that a host can meet, and the version. */
+/* The header against the library, in C and in C++: T2 to T8 of document 01's table by the typed commands, the run of document 02's
+ * request 2/14, every accessor, a list, the calls on lent records, document 01's recording read and replayed, refusals of each kind
+ * that a host can meet, and the version. */
 #include <errno.h>
 #include <stdio.h>
 #include <string.h>
@@ -57,6 +58,17 @@ static void table(void) {
     expect(answers(psic_set_core_priority(&state, core_0, 0), PSIC_OK, 0, 3) && shows(&state, 5, 3), "T8");
     expect(answers(psic_claim(&state, core_0), PSIC_OK, 5, 0), "5 is claimed");
     expect(answers(psic_redeliver(&state, psic_source_id_of(5)), PSIC_OK, 0, 1) && shows(&state, 5, 5), "5 is delivered again");
+}
+
+/* Cores set to 3 and 1, a request of 3, then one of 9. */
+static void fewest_cores(void) {
+    psic_state state;
+    start(&state);
+    psic_set_core_priority(&state, psic_core_id_of(0), 3);
+    psic_set_core_priority(&state, psic_core_id_of(1), 1);
+    expect(answers(psic_trigger(&state, psic_source_id_of(3)), PSIC_OK, 0, 1) && shows(&state, 3, 3), "3 goes to core 1");
+    expect(answers(psic_trigger(&state, psic_source_id_of(9)), PSIC_OK, 0, 1) && shows(&state, 3, 9), "9 goes where a box is filled");
+    expect(!psic_box(&state, psic_core_id_of(0)).filled && owned(&state, 3, PSIC_OWNER_SOURCE, 0), "core 0 isn't interrupted");
 }
 
 static void refusals(void) {
@@ -204,6 +216,7 @@ static void replays(void) {
 int main(void) {
     errno = 77;
     table();
+    fewest_cores();
     refusals();
     accessors();
     lists();

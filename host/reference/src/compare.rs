@@ -127,7 +127,7 @@ impl<L: Model, R: Model> Comparison<'_, L, R> {
     pub fn round(&self, length: usize) -> Option<Difference> {
         let mut random = Random::new(self.seed);
         let (n, m) = generate::sizes(&mut random);
-        let mix = random.pick(&[Mix::Even, Mix::Busy]);
+        let mix = random.pick(&Mix::ALL);
         let history = generate::history(random.bits(), n, m, length, mix);
         self.makings(&mut random)
             .or_else(|| self.history(&history))

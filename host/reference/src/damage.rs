@@ -133,6 +133,7 @@ pub fn violate(random: &mut Random, controller: &mut Controller, clause: Clause)
         Clause::NoBoxDirty => dirty_a_box(random, controller),
         Clause::NoCandidateAboveLeast => add_a_high_candidate(random, controller),
         Clause::ConfiguredUnderBoxNotAbove => raise_under_a_box(random, controller),
+        Clause::ConfiguredUnderBoxBelowBoxes => raise_to_a_box(random, controller),
     };
     edited.is_some() && !clause.holds(controller)
 }
@@ -324,15 +325,50 @@ fn add_a_high_candidate(random: &mut Random, controller: &mut Controller) -> Opt
     Some(())
 }
 
-/// The configured priority goes between the least current priority and the box's.
+/// The configured priority goes between the least current priority and the least box's, or the
+/// core's own box's if there is no room.
 fn raise_under_a_box(random: &mut Random, controller: &mut Controller) -> Option<()> {
     let least = controller.current_priorities().into_iter().min()?;
     let core = pick_core(random, controller, |core| {
         core.message.filled && core.message.priority > least.saturating_add(1)
     })?;
-    let priority = controller.core(core).message.priority;
-    controller.core_mut(core).configured = random.within(least + 1..=priority - 1);
+    let own = controller.core(core).message.priority;
+    let lowest = lowest_box(controller)?;
+    let limit = if lowest > least + 1 { lowest } else { own };
+    controller.core_mut(core).configured = random.within(least + 1..=limit - 1);
     Some(())
+}
+
+/// The configured priority goes to the least box's, or above it, on a core whose own box is higher.
+/// Empty boxes' cores below follow, so that it is above none of them. If all boxes are alike, it
+/// goes to that of its own.
+fn raise_to_a_box(random: &mut Random, controller: &mut Controller) -> Option<()> {
+    let lowest = lowest_box(controller)?;
+    let higher = pick_core(random, controller, |core| {
+        core.message.filled && core.message.priority > lowest
+    });
+    let Some(core) = higher else {
+        let core = pick_core(random, controller, |core| core.message.filled)?;
+        controller.core_mut(core).configured = lowest;
+        return Some(());
+    };
+    let above = random.within(lowest..=controller.core(core).message.priority - 1);
+    let raised = random.pick(&[lowest, lowest, above]);
+    controller.core_mut(core).configured = raised;
+    for number in 0..usize::from(controller.m) {
+        let other = &mut controller.cores[number];
+        if !other.message.filled {
+            other.configured = other.configured.max(raised);
+        }
+    }
+    Some(())
+}
+
+/// The least priority of a filled box, if there is one.
+fn lowest_box(controller: &Controller) -> Option<u16> {
+    let filled = controller.used_cores().iter();
+    let filled = filled.filter(|core| core.message.filled);
+    filled.map(|core| core.message.priority).min()
 }
 
 /// The source that a box names, unless its id is broken.

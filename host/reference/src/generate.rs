@@ -1,5 +1,7 @@
 //! Histories of commands, and records to lend, each determined by a seed.
 
+use std::ops::RangeInclusive;
+
 use crate::random::Random;
 use crate::records::{
     Command, Controller, Core, CoreNumber, MessageBox, Source, SourceId, MAX_PRIORITY, MAX_SOURCES,
@@ -26,6 +28,14 @@ pub enum Mix {
     Even,
     /// Sources are unmasked first, and the kinds are weighed so that boxes stay filled.
     Busy,
+    /// As busy, and most commands are steps to a tie between a filled and an empty box, and to a
+    /// request that the tie decides about.
+    Tied,
+}
+
+impl Mix {
+    /// All mixes.
+    pub const ALL: [Mix; 3] = [Mix::Even, Mix::Busy, Mix::Tied];
 }
 
 /// Makes a history. About one command in eight is refused: an argument out of range, or a command
@@ -203,7 +213,7 @@ impl Generator {
         let mut random = Random::new(seed);
         let palette = palette(&mut random, top_priority(n));
         let mut opening = Vec::new();
-        if mix == Mix::Busy {
+        if mix != Mix::Even {
             for id in (1..=n).map(SourceId).filter(|_| !random.one_in(8)) {
                 opening.push(Command::Unmask(id));
             }
@@ -230,15 +240,74 @@ impl Generator {
     }
 
     fn accepted(&mut self) -> Command {
+        if self.mix == Mix::Tied && !self.random.one_in(4) {
+            if let Some(command) = self.towards_a_tie() {
+                return command;
+            }
+        }
         loop {
             let kind = match self.mix {
                 Mix::Even => self.random.pick(&EVEN),
-                Mix::Busy => self.random.pick(&BUSY),
+                Mix::Busy | Mix::Tied => self.random.pick(&BUSY),
             };
             if let Some(command) = self.fitting(kind) {
                 return command;
             }
         }
+    }
+
+    /// A step to a tie between a filled and an empty box for the least current priority, or from
+    /// there to a request above them, if there is one.
+    fn towards_a_tie(&mut self) -> Option<Command> {
+        let controller = &self.controller;
+        let tied = reference::least_cores(controller);
+        let least = controller.core(tied[0]).current_priority();
+        let filled = |&&core: &&CoreNumber| controller.core(core).message.filled;
+        match tied.iter().filter(filled).count() {
+            0 => self.towards_another_level(&tied, least),
+            // A core with an empty box comes down to the filled ones.
+            all if all == tied.len() => {
+                let empty = |core: &Core| !core.message.filled;
+                let core = pick_core(&mut self.random, controller, empty)?;
+                Some(Command::SetCorePriority(core, least))
+            }
+            _ => self.towards_a_request(least + 1..=top_priority(controller.n)),
+        }
+    }
+
+    /// The least boxes are empty: a step to the next current priority above them. If an empty box
+    /// has it, a request as high; else one of their cores is set to it, or to any if there is none.
+    fn towards_another_level(&mut self, tied: &[CoreNumber], least: u16) -> Option<Command> {
+        let cores = self.controller.used_cores().iter();
+        let next = cores
+            .filter(|core| core.current_priority() > least)
+            .min_by_key(|core| (core.current_priority(), core.message.filled));
+        let level = match next {
+            Some(core) => core.current_priority(),
+            None => self.random.pick(&self.palette),
+        };
+        if next.is_some_and(|core| !core.message.filled) {
+            return self.towards_a_request(level..=level);
+        }
+        let core = self.random.pick(tied);
+        Some(Command::SetCorePriority(core, level))
+    }
+
+    /// A step to a new request with one of these priorities, if a source is free for it.
+    fn towards_a_request(&mut self, priorities: RangeInclusive<u16>) -> Option<Command> {
+        let (random, controller) = (&mut self.random, &self.controller);
+        if priorities.is_empty() {
+            return None;
+        }
+        let fits = |source: &Source| !source.pending && priorities.contains(&source.configured);
+        if let Some(id) = pick_source(random, controller, |source| fits(source) && !source.masked) {
+            return Some(Command::Trigger(id));
+        }
+        if let Some(id) = pick_source(random, controller, fits) {
+            return Some(Command::Unmask(id));
+        }
+        let id = pick_source(random, controller, |source| !source.pending)?;
+        Some(Command::SetSourcePriority(id, random.within(priorities)))
     }
 
     /// A command of this kind that the state accepts, if there is one.

@@ -1,4 +1,4 @@
-//! The reference model: document 01's rules, sentence by sentence.
+//! The reference model: document 01's rules, sentence by sentence, with the changes of document 02.
 
 use crate::records::{
     Answer, Command, Controller, Core, CoreNumber, MessageBox, Refusal, Source, SourceId,
@@ -38,9 +38,12 @@ pub fn execute(controller: &mut Controller, command: Command) -> Answer {
 
 /// Whether the command is taken. Order: 1, then 3 or 4, then 5, then 6, 7 or 8.
 pub fn check(controller: &Controller, command: Command) -> Result<(), Refusal> {
-    if !well_formed(controller) {
-        return Err(Refusal::Unsound);
-    }
+    refuse_if(!well_formed(controller), Refusal::Unsound)?;
+    check_command(controller, command)
+}
+
+/// Whether a sound state takes the command.
+pub fn check_command(controller: &Controller, command: Command) -> Result<(), Refusal> {
     let top = top_priority(controller.n);
     match command {
         Command::SetSourcePriority(id, priority) => {
@@ -186,15 +189,20 @@ pub fn highest_candidate(sources: &[Source]) -> Option<SourceId> {
     highest.map(|position| SourceId(position as u16 + 1))
 }
 
-/// The core of least current priority, on a tie the lowest number.
+/// The core of least current priority; on a tie a core with a filled box goes first, then the
+/// lowest number (request 2/14).
 pub fn least_core(controller: &Controller) -> CoreNumber {
-    let mut least = CoreNumber(0);
-    for core in controller.core_numbers() {
-        if controller.core(core).current_priority() < controller.core(least).current_priority() {
-            least = core;
-        }
-    }
-    least
+    let tied = least_cores(controller);
+    let filled = |&&core: &&CoreNumber| controller.core(core).message.filled;
+    *tied.iter().find(filled).unwrap_or(&tied[0])
+}
+
+/// The cores of least current priority, in the order of their numbers. There is at least one.
+pub fn least_cores(controller: &Controller) -> Vec<CoreNumber> {
+    let current = |core: CoreNumber| controller.core(core).current_priority();
+    let least = controller.core_numbers().map(current).min();
+    let tied = |&core: &CoreNumber| Some(current(core)) == least;
+    controller.core_numbers().filter(tied).collect()
 }
 
 /// Retraction: the box's source becomes waiting, the box empty.

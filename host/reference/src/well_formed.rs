@@ -37,11 +37,14 @@ pub enum Clause {
     NoCandidateAboveLeast,
     /// The configured priority under a filled box isn't above any core's current priority.
     ConfiguredUnderBoxNotAbove,
+    /// Each configured priority under a filled box is strictly below every filled box's priority
+    /// (request 2/14). A box and its own core are such a pair, so it says [`Clause::BoxAboveConfigured`] too.
+    ConfiguredUnderBoxBelowBoxes,
 }
 
 impl Clause {
     /// All clauses. The sizes come first, since the other clauses rest on them.
-    pub const ALL: [Clause; 14] = [
+    pub const ALL: [Clause; 15] = [
         Clause::SizesInRange,
         Clause::ConfiguredSourcePriorities,
         Clause::PendingRequestPriorities,
@@ -56,6 +59,7 @@ impl Clause {
         Clause::NoBoxDirty,
         Clause::NoCandidateAboveLeast,
         Clause::ConfiguredUnderBoxNotAbove,
+        Clause::ConfiguredUnderBoxBelowBoxes,
     ];
 
     /// Whether the clause holds of a state; every clause but the first rests on it.
@@ -75,6 +79,7 @@ impl Clause {
             Clause::NoBoxDirty => no_box_dirty(controller),
             Clause::NoCandidateAboveLeast => no_candidate_above_least(controller),
             Clause::ConfiguredUnderBoxNotAbove => configured_under_box_not_above(controller),
+            Clause::ConfiguredUnderBoxBelowBoxes => configured_under_box_below_boxes(controller),
         }
     }
 }
@@ -208,6 +213,15 @@ fn configured_under_box_not_above(controller: &Controller) -> bool {
         .iter()
         .filter(|core| core.message.filled)
         .all(|core| !above_some_core(controller, core.configured))
+}
+
+/// Each configured priority under a filled box is strictly below every filled box's priority.
+fn configured_under_box_below_boxes(controller: &Controller) -> bool {
+    controller
+        .used_cores()
+        .iter()
+        .filter(|core| core.message.filled)
+        .all(|core| filled_boxes(controller).all(|message| core.configured < message.priority))
 }
 
 /// The priority is strictly above some core's current priority.

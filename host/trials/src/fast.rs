@@ -1,6 +1,10 @@
 //! The model that the library's speed is compared with: plain Rust on a `&mut` state, the same algorithm as the library
 //! (one pass for the sound-state test, keys made once a command, the comparator tree by halves, no settling where a command
-//! leaves the state at rest), and no needless work.
+//! leaves the state at rest), and no needless work. [`Fast`] puts it to the comparisons too.
+
+mod model;
+
+pub use model::Fast;
 
 #[derive(Clone, Copy)]
 struct Source {
@@ -61,11 +65,12 @@ fn top_priority(n: u16) -> u16 {
     (1u32 << (n.ilog2() + 2)) as u16 - 1
 }
 impl Core {
-    fn current(&self) -> u16 {
+    /// Twice the current priority, one more for an empty box: the least key is the core that a delivery goes to, the first on a tie.
+    fn key(&self) -> u16 {
         if self.message.filled {
-            self.message.priority
+            2 * self.message.priority
         } else {
-            self.configured
+            2 * self.configured + 1
         }
     }
 }
@@ -118,10 +123,10 @@ fn highest(keys: &[u32]) -> usize {
         }
     }
 }
-fn least(currents: &[u16]) -> usize {
+fn least(keys: &[u16]) -> usize {
     let mut best = 0;
-    for k in 1..currents.len() {
-        if currents[k] < currents[best] {
+    for k in 1..keys.len() {
+        if keys[k] < keys[best] {
             best = k;
         }
     }
@@ -152,42 +157,49 @@ impl Controller {
             return false;
         }
         let top = top_priority(self.n);
-        let mut seen = [false; 128];
-        let mut lowest = u16::MAX;
-        let mut covered = 0;
-        for c in &self.cores[..m] {
-            if c.configured > top {
-                return false;
-            }
-            if c.message.filled {
-                let id = c.message.source as usize;
-                if id == 0 || id > n || seen[id - 1] {
-                    return false;
-                }
-                seen[id - 1] = true;
-                let r = &self.sources[id - 1];
-                if c.message.dirty
-                    || !r.pending
-                    || !r.delivered
-                    || r.priority != c.message.priority
-                    || c.configured >= c.message.priority
-                {
-                    return false;
-                }
-                covered = covered.max(c.configured);
-            } else if !c.message.is_empty() {
-                return false;
-            }
-            lowest = lowest.min(c.current());
-        }
-        covered <= lowest
-            && self.cores[m..]
-                .iter()
-                .all(|c| c.configured == 0 && c.message.is_empty())
+        let Some(lowest) = self.lowest(n, m, top) else {
+            return false;
+        };
+        self.cores[m..]
+            .iter()
+            .all(|c| c.configured == 0 && c.message.is_empty())
             && self.sources[..n]
                 .iter()
                 .all(|r| r.in_range(top) && !(r.candidate() && r.priority > lowest))
             && self.sources[n..].iter().all(|r| r.is_reset())
+    }
+    /// The least current priority, if all clauses on cores and boxes hold.
+    #[inline(always)]
+    fn lowest(&self, n: usize, m: usize, top: u16) -> Option<u16> {
+        let mut seen = [false; 128];
+        // Of filled boxes the least priority and the greatest covered one; of cores without a filled box the least priority.
+        let (mut lowest_box, mut covered) = (u16::MAX, 0);
+        let mut lowest_free = u16::MAX;
+        for c in &self.cores[..m] {
+            if c.configured > top {
+                return None;
+            }
+            if c.message.filled {
+                let id = c.message.source as usize;
+                if id == 0 || id > n || seen[id - 1] {
+                    return None;
+                }
+                seen[id - 1] = true;
+                let r = &self.sources[id - 1];
+                let named = r.pending && r.delivered && r.priority == c.message.priority;
+                if c.message.dirty || !named {
+                    return None;
+                }
+                covered = covered.max(c.configured);
+                lowest_box = lowest_box.min(c.message.priority);
+            } else if c.message.is_empty() {
+                lowest_free = lowest_free.min(c.configured);
+            } else {
+                return None;
+            }
+        }
+        // A box is above its own core's priority, since it is above every covered one.
+        (covered < lowest_box && covered <= lowest_free).then(|| lowest_box.min(lowest_free))
     }
     fn boxed(&self, id: u16) -> bool {
         self.cores[..self.m as usize]
@@ -201,14 +213,14 @@ impl Controller {
     fn settle(&mut self) -> u16 {
         let (n, m) = (self.n as usize, self.m as usize);
         let mut cycles = 0;
-        let mut currents = [0u16; 32];
-        for (c, current) in self.cores[..m].iter_mut().zip(&mut currents) {
+        let mut core_keys = [0u16; 32];
+        for (c, key) in self.cores[..m].iter_mut().zip(&mut core_keys) {
             if c.message.dirty {
                 self.sources[c.message.source as usize - 1].delivered = false;
                 c.message = EMPTY;
                 cycles += 1;
             }
-            *current = c.current();
+            *key = c.key();
         }
         let mut keys = [0u32; 128];
         for (key, r) in keys.iter_mut().zip(&self.sources[..n]) {
@@ -216,8 +228,9 @@ impl Controller {
         }
         loop {
             let at = highest(&keys[..n]);
-            let k = least(&currents[..m]);
-            if keys[at] <= currents[k] as u32 + 1 {
+            let k = least(&core_keys[..m]);
+            let current = core_keys[k] / 2;
+            if keys[at] <= current as u32 + 1 {
                 return cycles;
             }
             let c = &mut self.cores[k];
@@ -235,7 +248,7 @@ impl Controller {
                 source: at as u16 + 1,
                 priority: r.priority,
             };
-            currents[k] = r.priority;
+            core_keys[k] = 2 * r.priority;
             cycles += 1;
         }
     }

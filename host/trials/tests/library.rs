@@ -5,16 +5,17 @@ mod recordings;
 mod slips;
 
 use psic::bytes;
-use psic::{raw, Owner, Refusal, ANSWER_SIZE, COMMAND_SIZE, STATE_SIZE};
+use psic::{raw, CoreId, Owner, Refusal, ANSWER_SIZE, COMMAND_SIZE, STATE_SIZE};
 use psic_reference::compare::{Comparison, Difference};
 use psic_reference::damage;
 use psic_reference::demand3::first_breach;
 use psic_reference::generate::{self, Mix};
 use psic_reference::model::{Model, Reference};
 use psic_reference::random::{run_seed, run_seeds, Random};
-use psic_reference::records::{Command, Controller, SourceId};
+use psic_reference::records::{Command, Controller, CoreNumber, SourceId};
 use psic_reference::reference;
 use psic_reference::well_formed::well_formed;
+use psic_trials::fast::Fast;
 use psic_trials::library::{bytes_of, controller_of, encoded, run_list, Library};
 use psic_trials::wrapper::{typed, Wrapper};
 
@@ -46,6 +47,14 @@ fn the_typed_wrapper_agrees_with_the_reference() {
     }
 }
 
+/// So that what the library's speed is compared with does the same work.
+#[test]
+fn the_fast_model_agrees_with_the_reference() {
+    if let Some(difference) = first_difference(&Fast, 200, 500) {
+        panic!("{difference}");
+    }
+}
+
 /// What is compared is the library's own answer, of each call, by both ways to it.
 #[test]
 fn every_slip_of_the_library_is_found() {
@@ -57,20 +66,51 @@ fn every_slip_of_the_library_is_found() {
     }
 }
 
-/// Demand 3, on the states that the library itself hands back.
+/// Demand 3 and the count of boxes, on the states that the library itself hands back.
 #[test]
 fn the_library_keeps_demand_3() {
     let mut random = Random::new(run_seed());
-    for _ in 0..20 {
-        let history = generate::history(random.bits(), 3, 2, 300, Mix::Busy);
-        assert_eq!(first_breach(&Library, &history, true), None);
+    for mix in [Mix::Busy, Mix::Tied] {
+        for _ in 0..20 {
+            let history = generate::history(random.bits(), 3, 2, 300, mix);
+            assert_eq!(first_breach(&Library, &history, true), None);
+        }
     }
     for (n, m) in [(1, 1), (4, 3), (32, 2), (100, 7), (128, 4), (128, 32)] {
-        for mix in [Mix::Even, Mix::Busy] {
+        for mix in Mix::ALL {
             let history = generate::history(random.bits(), n, m, 2000, mix);
             assert_eq!(first_breach(&Library, &history, false), None, "({n}, {m})");
         }
     }
+}
+
+/// The run of request 2/14: core 0 isn't interrupted. The state in which it ended before, [9,3] with both boxes full, is refused by 1.
+#[test]
+fn the_run_of_request_2_leaves_core_0_alone() {
+    let run = || -> Result<[psic::Controller; 2], Refusal> {
+        let mut controller = psic::Controller::new(32, 2)?;
+        for id in [3, 9] {
+            controller.set_source_priority(psic::SourceId(id), id)?;
+            controller.unmask(psic::SourceId(id))?;
+        }
+        controller.set_core_priority(CoreId(0), 3)?;
+        controller.set_core_priority(CoreId(1), 1)?;
+        controller.trigger(psic::SourceId(3))?;
+        let before = controller.clone();
+        controller.trigger(psic::SourceId(9))?;
+        Ok([before, controller])
+    };
+    let [before, after] = run().expect("every command is accepted");
+    assert_eq!(before.to_string(), "[3,3]  3: box 1");
+    assert_eq!(after.to_string(), "[3,9]  3: source  9: box 1");
+    let mut former = Wrapper.read(&before);
+    reference::apply(&mut former, Command::Trigger(SourceId(9)));
+    reference::deliver(&mut former, SourceId(9), CoreNumber(0));
+    let mut former = Wrapper.load(&former);
+    assert_eq!(former.to_string(), "[9,3]  3: box 1  9: box 0");
+    let given = former.clone();
+    assert_eq!(former.claim(CoreId(0)), Err(Refusal::Unsound));
+    assert_eq!(former, given);
 }
 
 #[test]

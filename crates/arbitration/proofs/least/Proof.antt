@@ -9,13 +9,13 @@ use Rattle.arbitration.proofs.least.Statement.{statement}
 use Rattle.arbitration.proofs.least.Tie as tie
 
 abbrev Inv-loop : tie.InvT-loop
-Inv-loop currents m best₀ k₀ best k = LeastSoFar currents m best k
+Inv-loop keys m best₀ k₀ best k = LeastSoFar keys m best k
 
 abbrev μ-loop : tie.MeasureT-loop
-μ-loop currents m best₀ k₀ best k = m - k
+μ-loop keys m best₀ k₀ best k = m - k
 
 loop-holds : tie.Need-loop-holds Inv-loop μ-loop
-loop-holds c = least-start (c .args .currents .now) (c .args .m)
+loop-holds c = least-start (c .args .keys .now) (c .args .m)
 
 mul-if1 : tie.Need-mul-if1 Inv-loop μ-loop
 mul-if1 c = omega arith
@@ -38,7 +38,7 @@ loop-less c = omega arith
 loop-again : tie.Need-loop-again Inv-loop μ-loop
 loop-again c =
     let at-loop = c .before .before .before .before in
-    let cs : List ℕ = at-loop .before .args .currents .now in
+    let cs : List ℕ = at-loop .before .args .keys .now in
     let m : ℕ = at-loop .before .args .m in
     let best : ℕ = at-loop .loop .best in
     let k : ℕ = at-loop .loop .k in
@@ -49,7 +49,7 @@ loop-again c =
 
 returns : tie.Need-returns Inv-loop μ-loop
 returns c =
-    least-end (c .before .before .args .currents .now) (c .before .before .args .m) (c .before .loop .best) (c .before .loop .k)
+    least-end (c .before .before .args .keys .now) (c .before .before .args .m) (c .before .loop .best) (c .before .loop .k)
     (c .before .loop .inv)
     (c .loop-test .left)
 

@@ -1,14 +1,18 @@
 -- `cases::main` is safe and ends. The loop's invariant: i is at most the number of rows. Assumes nothing.
-use Prim.Native.Nat.{_≤_, _-_}
+use Prim.Native.Nat.{ℕ, _≤_, _-_}
 use borrow.Author.Needs.{needs}
 use Rattle.cases.proofs.main.Statement.{statement}
 use Rattle.cases.proofs.main.Tie as tie
 
+-- as many rows as the script has
+abbrev rows : ℕ
+rows = 59
+
 abbrev Inv-loop : tie.InvT-loop
-Inv-loop s₀ i₀ marked₀ good₀ s i marked good = i ≤ 54
+Inv-loop s₀ i₀ marked₀ good₀ s i marked good = i ≤ rows
 
 abbrev μ-loop : tie.MeasureT-loop
-μ-loop s₀ i₀ marked₀ good₀ s i marked good = 54 - i
+μ-loop s₀ i₀ marked₀ good₀ s i marked good = rows - i
 
 start-requires : tie.Need-start-requires Inv-loop μ-loop
 start-requires c κs = search needs

@@ -1,17 +1,16 @@
--- `settling::deliver_all` meets its contract. The loops' invariants: the keys, and then the current priorities, are filled up to
--- the index; the state is the given one after t cycles, all of them deliveries, and keys and current priorities are its own.
+-- `settling::deliver_all` meets its contract. The loops' invariants: the ranks, and then the cores' keys, are filled up to the index;
+-- the state is the given one after t cycles, all of them deliveries, and ranks and keys are its own.
 -- Assumes nothing.
 use Prim.Native.Nat.{_-_, _<_, _≤_}
 use mathlib.Core.Logic.{⊎-elim}
 use native.Mathlib.Omega.{arith}
 use Rattle.model.specs.declared.MessageBox.{MessageBox}
 use Rattle.model.specs.Records.{maxSources, maxCores, noSource, noCore, coreAt}
-use Rattle.model.specs.Requests.{currentPriority}
-use Rattle.model.specs.Arbitration.{rank}
+use Rattle.model.specs.Arbitration.{rank, coreKey}
 use Rattle.lists.proofs.Filling.{Filling, filling-none, filling-more}
 use Rattle.settling.proofs.Arbitrated.{Arbitrated}
 use Rattle.settling.proofs.Stores.{PutBack, evicted, old-in, back-filled, back-empty}
-use Rattle.settling.proofs.DeliveryLoop.{Delivered, delivered-none, found-source, found-core, found-current, turn-arbitrated, delivered-more, delivered-rest, delivered-all, turn-rests}
+use Rattle.settling.proofs.DeliveryLoop.{Delivered, delivered-none, found-source, found-core, turn-arbitrated, delivered-more, delivered-rest, delivered-all, turn-rests}
 use borrow.Author.Needs.{needs}
 use Rattle.settling.proofs.deliver_all.Statement.{statement}
 use Rattle.settling.proofs.deliver_all.Tie as tie
@@ -23,16 +22,16 @@ abbrev μ-loop : tie.MeasureT-loop
 μ-loop spent s n m keys₀ i₀ keys i = n - i
 
 abbrev Inv-loop2 : tie.InvT-loop2
-Inv-loop2 spent s n m keys i currents₀ j₀ currents j = Filling currentPriority noCore (s .cores) maxCores j currents
+Inv-loop2 spent s n m keys i core-keys₀ j₀ core-keys j = Filling coreKey noCore (s .cores) maxCores j core-keys
 
 abbrev μ-loop2 : tie.MeasureT-loop2
-μ-loop2 spent s n m keys i currents₀ j₀ currents j = m - j
+μ-loop2 spent s n m keys i core-keys₀ j₀ core-keys j = m - j
 
 abbrev Inv-loop3 : tie.InvT-loop3
-Inv-loop3 spent s n m keys₀ i currents₀ j state₀ t₀ keys currents state t = Delivered s keys currents state t
+Inv-loop3 spent s n m keys₀ i core-keys₀ j state₀ t₀ keys core-keys state t = Delivered s keys core-keys state t
 
 abbrev μ-loop3 : tie.MeasureT-loop3
-μ-loop3 spent s n m keys₀ i currents₀ j state₀ t₀ keys currents state t = s .m - t
+μ-loop3 spent s n m keys₀ i core-keys₀ j state₀ t₀ keys core-keys state t = s .m - t
 
 cast-n : tie.Need-cast-n Inv-loop μ-loop Inv-loop2 μ-loop2 Inv-loop3 μ-loop3
 cast-n c = search needs
@@ -70,26 +69,23 @@ loop-again c =
     filling-more rank noSource _ (c .before .before .before .loop .inv) (array-write-keys c) (c .rank .result) (c .rank .ensures)
 
 loop2-holds : tie.Need-loop2-holds Inv-loop μ-loop Inv-loop2 μ-loop2 Inv-loop3 μ-loop3
-loop2-holds c = filling-none currentPriority noCore _ maxCores
+loop2-holds c = filling-none coreKey noCore _ maxCores
 
-mul-current-priority :
-    tie.Need-mul-current-priority Inv-loop μ-loop Inv-loop2 μ-loop2 Inv-loop3 μ-loop3
-mul-current-priority c = search needs
+mul-core-key : tie.Need-mul-core-key Inv-loop μ-loop Inv-loop2 μ-loop2 Inv-loop3 μ-loop3
+mul-core-key c = search needs
 
-element-copy-out-current-priority :
-    tie.Need-element-copy-out-current-priority Inv-loop μ-loop Inv-loop2 μ-loop2 Inv-loop3 μ-loop3
-element-copy-out-current-priority c = omega arith
+element-copy-out-core-key : tie.Need-element-copy-out-core-key Inv-loop μ-loop Inv-loop2 μ-loop2 Inv-loop3 μ-loop3
+element-copy-out-core-key c = omega arith
 
-current-priority-requires :
-    tie.Need-current-priority-requires Inv-loop μ-loop Inv-loop2 μ-loop2 Inv-loop3 μ-loop3
-current-priority-requires c κs = search needs
+core-key-requires : tie.Need-core-key-requires Inv-loop μ-loop Inv-loop2 μ-loop2 Inv-loop3 μ-loop3
+core-key-requires c κs = search needs
 
-mul-currents : tie.Need-mul-currents Inv-loop μ-loop Inv-loop2 μ-loop2 Inv-loop3 μ-loop3
-mul-currents c = search needs
+mul-core-keys : tie.Need-mul-core-keys Inv-loop μ-loop Inv-loop2 μ-loop2 Inv-loop3 μ-loop3
+mul-core-keys c = search needs
 
-array-write-currents :
-    tie.Need-array-write-currents Inv-loop μ-loop Inv-loop2 μ-loop2 Inv-loop3 μ-loop3
-array-write-currents c = search needs
+array-write-core-keys :
+    tie.Need-array-write-core-keys Inv-loop μ-loop Inv-loop2 μ-loop2 Inv-loop3 μ-loop3
+array-write-core-keys c = search needs
 
 add-j : tie.Need-add-j Inv-loop μ-loop Inv-loop2 μ-loop2 Inv-loop3 μ-loop3
 add-j c = search needs
@@ -99,16 +95,16 @@ loop2-less c = search needs
 
 loop2-again : tie.Need-loop2-again Inv-loop μ-loop Inv-loop2 μ-loop2 Inv-loop3 μ-loop3
 loop2-again c =
-    filling-more currentPriority noCore _ (c .before .before .before .loop2 .inv) (array-write-currents c)
-    (c .current-priority .result) (c .current-priority .ensures)
+    filling-more coreKey noCore _ (c .before .before .before .loop2 .inv) (array-write-core-keys c)
+    (c .core-key .result) (c .core-key .ensures)
 
 loop3-holds : tie.Need-loop3-holds Inv-loop μ-loop Inv-loop2 μ-loop2 Inv-loop3 μ-loop3
 loop3-holds c =
     let entry = c .before .before .before .before in
     let keys = c .before .before .before .loop .inv in
-    let currents = c .before .loop2 .inv in
+    let cores = c .before .loop2 .inv in
     delivered-none (entry .args .t1) _ _ (entry .pre .0) (entry .pre .1) (λ i h. keys .filled i (omega arith))
-    (λ j h. currents .filled j (omega arith)) (keys .whole) (currents .whole)
+    (λ j h. cores .filled j (omega arith)) (keys .whole) (cores .whole)
 
 highest-requires : tie.Need-highest-requires Inv-loop μ-loop Inv-loop2 μ-loop2 Inv-loop3 μ-loop3
 highest-requires c κs = search needs
@@ -129,48 +125,50 @@ source-found c = found-source (head c .loop3 .inv) (c .before .before .highest .
 core-found : (c : tie.After-least Inv-loop μ-loop Inv-loop2 μ-loop2 Inv-loop3 μ-loop3) → c .least .result < maxCores
 core-found c = found-core (head c .loop3 .inv) (c .before .before .highest .ensures) (c .least .ensures)
 
+mul-c : tie.Need-mul-c Inv-loop μ-loop Inv-loop2 μ-loop2 Inv-loop3 μ-loop3
+mul-c c = omega (arith, core-found c)
+
+element-copy-out-c : tie.Need-element-copy-out-c Inv-loop μ-loop Inv-loop2 μ-loop2 Inv-loop3 μ-loop3
+element-copy-out-c c = omega (arith, core-found c)
+
 mul-if1 : tie.Need-mul-if1 Inv-loop μ-loop Inv-loop2 μ-loop2 Inv-loop3 μ-loop3
-mul-if1 c = omega (arith, source-found c)
+mul-if1 c = omega (arith, source-found (c .before))
 
 array-read-if1 : tie.Need-array-read-if1 Inv-loop μ-loop Inv-loop2 μ-loop2 Inv-loop3 μ-loop3
-array-read-if1 c = omega (arith, source-found c)
+array-read-if1 c = omega (arith, source-found (c .before))
 
-mul-if1-2 : tie.Need-mul-if1-2 Inv-loop μ-loop Inv-loop2 μ-loop2 Inv-loop3 μ-loop3
-mul-if1-2 c = omega (arith, core-found c)
-
-array-read-if1-2 : tie.Need-array-read-if1-2 Inv-loop μ-loop Inv-loop2 μ-loop2 Inv-loop3 μ-loop3
-array-read-if1-2 c = omega (arith, core-found c)
+current-priority-requires :
+    tie.Need-current-priority-requires Inv-loop μ-loop Inv-loop2 μ-loop2 Inv-loop3 μ-loop3
+current-priority-requires c κs = search needs
 
 cast-if1 : tie.Need-cast-if1 Inv-loop μ-loop Inv-loop2 μ-loop2 Inv-loop3 μ-loop3
-cast-if1 c = omega (arith, found-current (head c .loop3 .inv) (c .before .before .highest .ensures) (c .least .ensures))
+cast-if1 c = search needs
 
 add-if1 : tie.Need-add-if1 Inv-loop μ-loop Inv-loop2 μ-loop2 Inv-loop3 μ-loop3
-add-if1 c = omega (arith, found-current (head c .loop3 .inv) (c .before .before .highest .ensures) (c .least .ensures))
+add-if1 c = search needs
 
-mul-c : tie.Need-mul-c Inv-loop μ-loop Inv-loop2 μ-loop2 Inv-loop3 μ-loop3
-mul-c c = omega (arith, core-found (c .before))
-
-element-copy-out-c :
-    tie.Need-element-copy-out-c Inv-loop μ-loop Inv-loop2 μ-loop2 Inv-loop3 μ-loop3
-element-copy-out-c c = omega (arith, core-found (c .before))
+-- the core that the turn writes is found
+abbrev found : tie.Else1 Inv-loop μ-loop Inv-loop2 μ-loop2 Inv-loop3 μ-loop3 → tie.After-least Inv-loop μ-loop Inv-loop2 μ-loop2 Inv-loop3 μ-loop3
+found c = c .before .before .before
 
 -- the turn delivers
 turn-delivers :
     (c : tie.Else1 Inv-loop μ-loop Inv-loop2 μ-loop2 Inv-loop3 μ-loop3) →
-    Arbitrated (head (c .before) .loop3 .state) (c .before .before .before .highest .result) (c .before .least .result)
+    Arbitrated (head (found c) .loop3 .state) (found c .before .before .highest .result) (found c .least .result)
 turn-delivers c =
-    turn-arbitrated (head (c .before) .loop3 .inv) (c .before .before .before .highest .ensures) (c .before .least .ensures) (c .if1 .left)
+    turn-arbitrated (head (found c) .loop3 .inv) (found c .before .before .highest .ensures) (found c .least .ensures)
+    (rw (c .before .current-priority .ensures) at (c .if1 .left))
 
 -- the box that the turn writes
 abbrev box : tie.Else1 Inv-loop μ-loop Inv-loop2 μ-loop2 Inv-loop3 μ-loop3 → MessageBox
-box c = (coreAt (head (c .before) .loop3 .state) (c .before .least .result)) .message
+box c = (coreAt (head (found c) .loop3 .state) (found c .least .result)) .message
 
 -- a filled one names a source
-names-one : (c : tie.Then2 Inv-loop μ-loop Inv-loop2 μ-loop2 Inv-loop3 μ-loop3) → 1 ≤ box (c .before .before) .source .0
-names-one c = evicted (turn-delivers (c .before .before)) (head (c .before .before .before) .loop3 .inv .keyed) (c .if2 .taken) .some-id
+names-one : (c : tie.Then2 Inv-loop μ-loop Inv-loop2 μ-loop2 Inv-loop3 μ-loop3) → 1 ≤ box (c .before) .source .0
+names-one c = evicted (turn-delivers (c .before)) (head (found (c .before)) .loop3 .inv .keyed) (c .if2 .taken) .some-id
 
-evicted-found : (c : tie.Then2 Inv-loop μ-loop Inv-loop2 μ-loop2 Inv-loop3 μ-loop3) → box (c .before .before) .source .0 - 1 < maxSources
-evicted-found c = old-in (turn-delivers (c .before .before)) (head (c .before .before .before) .loop3 .inv .keyed) (c .if2 .taken)
+evicted-found : (c : tie.Then2 Inv-loop μ-loop Inv-loop2 μ-loop2 Inv-loop3 μ-loop3) → box (c .before) .source .0 - 1 < maxSources
+evicted-found c = old-in (turn-delivers (c .before)) (head (found (c .before)) .loop3 .inv .keyed) (c .if2 .taken)
 
 cast-old : tie.Need-cast-old Inv-loop μ-loop Inv-loop2 μ-loop2 Inv-loop3 μ-loop3
 cast-old c = search needs
@@ -198,66 +196,62 @@ rank-requires-2 c κs = search needs
 mul-keys-2 : tie.Need-mul-keys-2 Inv-loop μ-loop Inv-loop2 μ-loop2 Inv-loop3 μ-loop3
 mul-keys-2 c = omega (arith, evicted-found (c .before .before .before))
 
-array-write-keys-2 :
-    tie.Need-array-write-keys-2 Inv-loop μ-loop Inv-loop2 μ-loop2 Inv-loop3 μ-loop3
+array-write-keys-2 : tie.Need-array-write-keys-2 Inv-loop μ-loop Inv-loop2 μ-loop2 Inv-loop3 μ-loop3
 array-write-keys-2 c = omega (arith, evicted-found (c .before .before .before))
 
 -- where the two ways meet
 put-back :
     (c : tie.Joined2 Inv-loop μ-loop Inv-loop2 μ-loop2 Inv-loop3 μ-loop3) →
-    PutBack (head (c .before .before .before) .loop3 .state) (c .before .before .before .least .result) (c .if2 .keys) (c .if2 .state)
+    PutBack (head (found (c .before)) .loop3 .state) (found (c .before) .least .result) (c .if2 .keys) (c .if2 .state)
 put-back c =
-    let a = turn-delivers (c .before .before) in
-    let keyed = head (c .before .before .before) .loop3 .inv .keyed in
+    let a = turn-delivers (c .before) in
+    let keyed = head (found (c .before)) .loop3 .inv .keyed in
     ⊎-elim
     (λ w. back-filled a keyed (w .0 .taken) (w .3 .result) (w .3 .ensures) _ _ (w .4) (w .5))
     (λ w. back-empty a keyed (w .0 .left) _ _ (w .1) (w .2))
     (c .if2 .came)
 
 mul-r : tie.Need-mul-r Inv-loop μ-loop Inv-loop2 μ-loop2 Inv-loop3 μ-loop3
-mul-r c = omega (arith, source-found (c .before .before .before))
+mul-r c = omega (arith, source-found (found (c .before)))
 
-element-copy-out-r :
-    tie.Need-element-copy-out-r Inv-loop μ-loop Inv-loop2 μ-loop2 Inv-loop3 μ-loop3
-element-copy-out-r c = omega (arith, source-found (c .before .before .before))
+element-copy-out-r : tie.Need-element-copy-out-r Inv-loop μ-loop Inv-loop2 μ-loop2 Inv-loop3 μ-loop3
+element-copy-out-r c = omega (arith, source-found (found (c .before)))
 
 mul-r-2 : tie.Need-mul-r-2 Inv-loop μ-loop Inv-loop2 μ-loop2 Inv-loop3 μ-loop3
 mul-r-2 c = mul-r (c .before)
 
-element-set-from-r :
-    tie.Need-element-set-from-r Inv-loop μ-loop Inv-loop2 μ-loop2 Inv-loop3 μ-loop3
+element-set-from-r : tie.Need-element-set-from-r Inv-loop μ-loop Inv-loop2 μ-loop2 Inv-loop3 μ-loop3
 element-set-from-r c = element-copy-out-r (c .before)
 
 mul-keys-3 : tie.Need-mul-keys-3 Inv-loop μ-loop Inv-loop2 μ-loop2 Inv-loop3 μ-loop3
-mul-keys-3 c = omega (arith, source-found (c .before .before .before .before))
+mul-keys-3 c = omega (arith, source-found (found (c .before .before)))
 
-array-write-keys-3 :
-    tie.Need-array-write-keys-3 Inv-loop μ-loop Inv-loop2 μ-loop2 Inv-loop3 μ-loop3
-array-write-keys-3 c = omega (arith, source-found (c .before .before .before .before))
+array-write-keys-3 : tie.Need-array-write-keys-3 Inv-loop μ-loop Inv-loop2 μ-loop2 Inv-loop3 μ-loop3
+array-write-keys-3 c = omega (arith, source-found (found (c .before .before)))
 
-cast-t38 : tie.Need-cast-t38 Inv-loop μ-loop Inv-loop2 μ-loop2 Inv-loop3 μ-loop3
-cast-t38 c = omega (arith, source-found (c .before .before .before .before))
+cast-t39 : tie.Need-cast-t39 Inv-loop μ-loop Inv-loop2 μ-loop2 Inv-loop3 μ-loop3
+cast-t39 c = omega (arith, source-found (found (c .before .before)))
 
-add-t70 : tie.Need-add-t70 Inv-loop μ-loop Inv-loop2 μ-loop2 Inv-loop3 μ-loop3
-add-t70 c = omega (arith, source-found (c .before .before .before .before))
+add-t68 : tie.Need-add-t68 Inv-loop μ-loop Inv-loop2 μ-loop2 Inv-loop3 μ-loop3
+add-t68 c = omega (arith, source-found (found (c .before .before)))
 
-filled-with-requires :
-    tie.Need-filled-with-requires Inv-loop μ-loop Inv-loop2 μ-loop2 Inv-loop3 μ-loop3
+filled-with-requires : tie.Need-filled-with-requires Inv-loop μ-loop Inv-loop2 μ-loop2 Inv-loop3 μ-loop3
 filled-with-requires c κs = search needs
 
-mul-t46 : tie.Need-mul-t46 Inv-loop μ-loop Inv-loop2 μ-loop2 Inv-loop3 μ-loop3
-mul-t46 c = omega (arith, core-found (c .before .before .before .before .before))
+mul-taken : tie.Need-mul-taken Inv-loop μ-loop Inv-loop2 μ-loop2 Inv-loop3 μ-loop3
+mul-taken c = omega (arith, core-found (found (c .before .before .before)))
 
-element-set-from-state :
-    tie.Need-element-set-from-state Inv-loop μ-loop Inv-loop2 μ-loop2 Inv-loop3 μ-loop3
-element-set-from-state c = omega (arith, core-found (c .before .before .before .before .before))
+element-set-from-taken : tie.Need-element-set-from-taken Inv-loop μ-loop Inv-loop2 μ-loop2 Inv-loop3 μ-loop3
+element-set-from-taken c = omega (arith, core-found (found (c .before .before .before)))
 
-mul-currents-2 : tie.Need-mul-currents-2 Inv-loop μ-loop Inv-loop2 μ-loop2 Inv-loop3 μ-loop3
-mul-currents-2 c = omega (arith, core-found (c .before .before .before .before .before))
+core-key-requires-2 : tie.Need-core-key-requires-2 Inv-loop μ-loop Inv-loop2 μ-loop2 Inv-loop3 μ-loop3
+core-key-requires-2 c κs = search needs
 
-array-write-currents-2 :
-    tie.Need-array-write-currents-2 Inv-loop μ-loop Inv-loop2 μ-loop2 Inv-loop3 μ-loop3
-array-write-currents-2 c = omega (arith, core-found (c .before .before .before .before .before))
+mul-core-keys-2 : tie.Need-mul-core-keys-2 Inv-loop μ-loop Inv-loop2 μ-loop2 Inv-loop3 μ-loop3
+mul-core-keys-2 c = omega (arith, core-found (found (c .before .before .before .before)))
+
+array-write-core-keys-2 : tie.Need-array-write-core-keys-2 Inv-loop μ-loop Inv-loop2 μ-loop2 Inv-loop3 μ-loop3
+array-write-core-keys-2 c = omega (arith, core-found (found (c .before .before .before .before)))
 
 add-t : tie.Need-add-t Inv-loop μ-loop Inv-loop2 μ-loop2 Inv-loop3 μ-loop3
 add-t c = search needs
@@ -267,13 +261,15 @@ loop3-less c = search needs
 
 loop3-again : tie.Need-loop3-again Inv-loop μ-loop Inv-loop2 μ-loop2 Inv-loop3 μ-loop3
 loop3-again c =
-    let found = c .before .before .before .before .before in
-    delivered-more (head found .loop3 .inv) (found .before .before .highest .ensures) (found .least .ensures)
-    (c .before .before .before .before .if1 .left) (put-back (c .before .before)) (found .before .before .before .before .loop3-test .taken)
-    (c .filled-with .result) (c .filled-with .ensures)
+    let joined = c .before .before .before in
+    let turn = joined .before in
+    delivered-more (head (found turn) .loop3 .inv) (found turn .before .before .highest .ensures) (found turn .least .ensures)
+    (rw (turn .before .current-priority .ensures) at (turn .if1 .left)) (put-back joined)
+    (found turn .before .before .before .before .loop3-test .taken)
+    (c .before .filled-with .result) (c .before .filled-with .ensures) (c .core-key2 .result) (c .core-key2 .ensures)
 
-add-t18 : tie.Need-add-t18 Inv-loop μ-loop Inv-loop2 μ-loop2 Inv-loop3 μ-loop3
-add-t18 c = search needs
+add-t19 : tie.Need-add-t19 Inv-loop μ-loop Inv-loop2 μ-loop2 Inv-loop3 μ-loop3
+add-t19 c = search needs
 
 returns : tie.Need-returns Inv-loop μ-loop Inv-loop2 μ-loop2 Inv-loop3 μ-loop3
 returns c =
@@ -281,7 +277,7 @@ returns c =
     let pre = c .before .before .before .before .before .before .pre in
     ⊎-elim
     (λ w. delivered-all inv _ (pre .0) (pre .1) (w .left))
-    (λ w. delivered-rest inv _ (turn-rests inv (w .2 .ensures) (w .4 .ensures) (w .5 .taken)))
+    (λ w. delivered-rest inv _ (turn-rests inv (w .2 .ensures) (w .4 .ensures) (rw (w .6 .ensures) at (w .7 .taken))))
     (c .loop3-test .came)
 
 pub deliver-all-spec : {M : Type 1} → statement M
@@ -306,25 +302,24 @@ deliver-all-spec =
     loop-less
     loop-again
     loop2-holds
-    mul-current-priority
-    element-copy-out-current-priority
-    current-priority-requires
-    mul-currents
-    array-write-currents
+    mul-core-key
+    element-copy-out-core-key
+    core-key-requires
+    mul-core-keys
+    array-write-core-keys
     add-j
     loop2-less
     loop2-again
     loop3-holds
     highest-requires
     least-requires
-    mul-if1
-    array-read-if1
-    mul-if1-2
-    array-read-if1-2
-    cast-if1
-    add-if1
     mul-c
     element-copy-out-c
+    mul-if1
+    array-read-if1
+    current-priority-requires
+    cast-if1
+    add-if1
     cast-old
     sub-old
     mul-evicted
@@ -340,15 +335,16 @@ deliver-all-spec =
     element-set-from-r
     mul-keys-3
     array-write-keys-3
-    cast-t38
-    add-t70
+    cast-t39
+    add-t68
     filled-with-requires
-    mul-t46
-    element-set-from-state
-    mul-currents-2
-    array-write-currents-2
+    mul-taken
+    element-set-from-taken
+    core-key-requires-2
+    mul-core-keys-2
+    array-write-core-keys-2
     add-t
     loop3-less
     loop3-again
-    add-t18
+    add-t19
     returns)

@@ -13,7 +13,7 @@ use Rattle.model.specs.Records.{maxSources, maxCores, coreAt}
 use Rattle.model.specs.Priorities.{topPriority}
 use Rattle.lists.specs.Walks.{every}
 use Rattle.well_formed.specs.declared.Surveyed.{Surveyed}
-use Rattle.well_formed.specs.Survey.{surveyWith, inconsistentSurvey}
+use Rattle.well_formed.specs.Survey.{surveyWith, inconsistentSurvey, unboxed}
 use Rattle.well_formed.specs.Loops.{spareCore, withCore, coresTo, coresSurvey}
 use Rattle.lists.proofs.Exact.{flag-exact, accepted, rejected}
 use Rattle.lists.proofs.Turns.{since-begin, since-turn, since-end}
@@ -88,7 +88,7 @@ loop-holds : tie.Need-loop-holds Inv-loop μ-loop Inv-loop2 μ-loop2
 loop-holds c =
     let s = c .before .before .before .args .t1 in
     let lowest = c .before .current-priority .ensures in
-    (omega arith, (boxes-begin s, c .found .ensures ∙ (λ t. surveyWith true true (lowest t) 0 0) ∙ cores-begin (s .cores)))
+    (omega arith, (boxes-begin s, c .found .ensures ∙ (λ t. surveyWith true true (lowest t) 0 unboxed 0) ∙ cores-begin (s .cores)))
 
 mul-c : tie.Need-mul-c Inv-loop μ-loop Inv-loop2 μ-loop2
 mul-c c = omega (arith, start c .pre .0)

@@ -198,7 +198,7 @@ returns-6 c =
     let waiting = l .inv .1 .1 ∙ ap (greatestWaiting (a .t2)) all in
     let spares = accepted (spare-sources-exact (a .t2) (a .n)) (fresh-is (c .before .before)) (c .before .if9 .left) in
     c .found .ensures ∙
-    (λ t. surveyWith true (a .v .clean) (a .v .lowest) (a .v .covered) (waiting t)) ∙
+    (λ t. surveyWith true (a .v .clean) (a .v .lowest) (a .v .covered) (a .v .boxed) (waiting t)) ∙
     sources-passed (a .v) (a .t2) (a .n) (a .top) (λ j h. l .inv .1 .0 j (omega arith), spares)
 
 pub survey-sources-spec : {M : Type 1} → statement M

@@ -21,6 +21,12 @@ covered-priority-requires c κs = search needs
 greater-requires : tie.Need-greater-requires
 greater-requires c κs = search needs
 
+boxed-priority-requires : tie.Need-boxed-priority-requires
+boxed-priority-requires c κs = search needs
+
+lesser-requires-2 : tie.Need-lesser-requires-2
+lesser-requires-2 c κs = search needs
+
 found-requires : tie.Need-found-requires
 found-requires c κs = search needs
 
@@ -32,14 +38,24 @@ clean-is c =
 returns : tie.Need-returns
 unfolding withCore
 returns c =
-    let start = c .before .before .before .before .before .before in
-    let clean = clean-is (c .before .before .before .before .before) in
-    let current = c .before .before .before .before .current-priority .ensures in
-    let lowest = c .before .before .before .lesser .ensures ∙ ap (min (start .args .v .lowest)) current in
-    let covered = c .before .greater .ensures ∙ ap (max (start .args .v .covered)) (c .before .before .covered-priority .ensures) in
-    c .found .ensures ∙ (λ t. surveyWith true (clean t) (lowest t) (covered t) (start .args .v .waiting))
+    let covering = c .before .before .before in
+    let looking = covering .before .before .before in
+    let start = looking .before .before in
+    let clean = clean-is (looking .before) in
+    let lowest = covering .before .before .lesser .ensures ∙ ap (min (start .args .v .lowest)) (looking .current-priority .ensures) in
+    let covered = covering .greater .ensures ∙ ap (max (start .args .v .covered)) (covering .before .covered-priority .ensures) in
+    let boxed = c .before .lesser2 .ensures ∙ ap (min (start .args .v .boxed)) (c .before .before .boxed-priority .ensures) in
+    c .found .ensures ∙ (λ t. surveyWith true (clean t) (lowest t) (covered t) (boxed t) (start .args .v .waiting))
 
 pub with-core-spec : {M : Type 1} → statement M
 with-core-spec =
     tie.close
-    (tie.spec current-priority-requires lesser-requires covered-priority-requires greater-requires found-requires returns)
+    (tie.spec
+    current-priority-requires
+    lesser-requires
+    covered-priority-requires
+    greater-requires
+    boxed-priority-requires
+    lesser-requires-2
+    found-requires
+    returns)

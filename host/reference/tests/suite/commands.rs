@@ -51,7 +51,8 @@ fn every_command_keeps_any_sound_state_sound() {
     let mut random = Random::new(run_seed());
     for _ in 0..60 {
         let (n, m) = generate::sizes(&mut random);
-        let history = generate::history(random.bits(), n, m, 200, Mix::Busy);
+        let mix = random.pick(&[Mix::Busy, Mix::Tied]);
+        let history = generate::history(random.bits(), n, m, 200, mix);
         let mut sound = generate::final_state(&history);
         for _ in 0..200 {
             let away = damage::one_field_away(&mut random, &sound);
@@ -128,12 +129,82 @@ fn tie_between_candidates_falls_to_the_lowest_id() {
     assert_eq!(run.boxes(), [0, 7]);
 }
 
+/// With no filled box among them.
 #[test]
 fn tie_between_cores_falls_to_the_lowest_number() {
-    let mut run = Run::table();
-    run.accept(set_core(0, 2));
-    run.accept(set_core(1, 2));
-    run.settles(trigger(4), 1, [4, 2]);
+    Run::on_cores(&[2, 2]).settles(trigger(4), 1, [4, 2]);
+    Run::on_cores(&[9, 2, 2, 2]).settles(trigger(4), 1, [9, 4, 2, 2]);
+}
+
+/// Request 2/14, with the filled box on either side of the empty one.
+#[test]
+fn tie_falls_to_a_filled_box_before_an_empty_one() {
+    let mut run = Run::on_cores(&[3, 1]);
+    run.settles(trigger(3), 1, [3, 3]);
+    assert_eq!(run.boxes(), [0, 3]);
+    run.settles(trigger(9), 1, [3, 9]);
+    assert_eq!(run.boxes(), [0, 9]);
+    let mut run = Run::on_cores(&[1, 3]);
+    run.settles(trigger(3), 1, [3, 3]);
+    run.settles(trigger(9), 1, [9, 3]);
+    assert_eq!(run.boxes(), [9, 0]);
+    assert!(run.source(3).is_waiting());
+}
+
+/// Boxes of 5 on cores 1, 3 and 4, and cores 0 and 2 at 5 without one.
+#[test]
+fn tie_between_filled_boxes_falls_to_the_lowest_number() {
+    let mut run = Run::on_cores(&[5, 1, 5, 1, 1]);
+    for id in [5, 6, 7] {
+        run.accept(set_source(id, 5));
+        run.accept(trigger(id));
+    }
+    assert_eq!(run.boxes(), [0, 5, 0, 6, 7]);
+    for (id, boxes) in [(9, [0, 9, 0, 6, 7]), (10, [0, 9, 0, 10, 7])] {
+        run.accept(trigger(id));
+        assert_eq!(run.boxes(), boxes);
+    }
+    run.settles(trigger(11), 1, [5, 9, 5, 10, 11]);
+    // No box of 5 is left, so an empty one is next.
+    run.settles(trigger(12), 1, [12, 9, 5, 10, 11]);
+}
+
+#[test]
+fn tie_between_all_boxes_filled_falls_to_the_lowest_number() {
+    let mut run = Run::on_cores(&[0, 0, 0]);
+    for id in [4, 5, 6] {
+        run.accept(set_source(id, 4));
+        run.accept(trigger(id));
+    }
+    run.settles(trigger(9), 1, [9, 4, 4]);
+    assert!(run.source(4).is_waiting());
+}
+
+#[test]
+fn lower_core_goes_before_a_filled_box() {
+    let mut run = Run::on_cores(&[0, 2]);
+    run.settles(trigger(3), 1, [3, 2]);
+    run.settles(trigger(9), 1, [3, 9]);
+    assert_eq!(run.boxes(), [3, 9]);
+}
+
+#[test]
+fn request_at_a_tie_interrupts_no_core() {
+    let mut run = Run::on_cores(&[3, 1]);
+    run.accept(trigger(3));
+    run.accept(set_source(9, 3));
+    run.settles(trigger(9), 0, [3, 3]);
+    assert_eq!(run.boxes(), [0, 3]);
+    assert!(run.source(9).is_waiting());
+}
+
+#[test]
+fn one_core_takes_every_higher_request() {
+    let mut run = Run::on_cores(&[2]);
+    run.settles(trigger(3), 1, [3]);
+    run.settles(trigger(4), 1, [4]);
+    run.settles(trigger(2), 0, [4]);
+    assert_eq!(run.boxes(), [4]);
 }
 
 #[test]

@@ -4,10 +4,10 @@ use psic_reference::compare::{Call, Comparison, Difference};
 use psic_reference::generate::{self, History, Mix};
 use psic_reference::model::{Model, Reference};
 use psic_reference::random::run_seeds;
-use psic_reference::well_formed::Clause;
 
 use crate::faulty::{Fault, Faulty, Field};
-use crate::histories::{set_core, trigger, unmask};
+use crate::histories::{run_of_request_2, set_core, trigger, unmask};
+use crate::well_formed::clauses_that_fail_alone;
 
 /// The first difference from the reference model within so many rounds.
 fn first_difference<M: Model>(model: &M, rounds: usize) -> Option<Difference> {
@@ -36,9 +36,86 @@ fn every_fault_is_found() {
     }
 }
 
+/// Request 2/14's tie, in the histories alone: at each of these sizes some tell it.
+#[test]
+fn every_wrong_tie_is_found_in_generated_histories() {
+    let seeds = run_seeds(40);
+    for fault in Fault::TIES {
+        for (n, m) in [(4, 3), (8, 4), (32, 8), (128, 32)] {
+            let tells = |seed: &&u64| {
+                let comparison = Comparison {
+                    left: &Reference,
+                    right: &Faulty { fault },
+                    seed: **seed,
+                };
+                let history = generate::history(**seed, n, m, 300, Mix::Tied);
+                comparison.history(&history).is_some()
+            };
+            let told = seeds.iter().filter(tells).count();
+            println!(
+                "{fault:?}, n = {n}, m = {m}: told by {told} of {}",
+                seeds.len()
+            );
+            assert!(told > 0, "{fault:?}, n = {n}, m = {m}");
+        }
+    }
+}
+
+#[test]
+fn every_wrong_tie_is_found() {
+    for fault in Fault::TIES {
+        let found = first_difference(&Faulty { fault }, 60);
+        assert!(found.is_some(), "{fault:?}");
+    }
+}
+
+/// Request 2/14's clause. A state that is sound or isn't tells, by number 1 on one side alone.
+#[test]
+fn every_wrong_clause_is_found() {
+    for fault in Fault::CLAUSES {
+        let found = first_difference(&Faulty { fault }, 60);
+        let Difference { left, right, .. } = found.unwrap_or_else(|| panic!("{fault:?}"));
+        let refused = [left.1.number == 1, right.1.number == 1];
+        let too_strict = fault.is_too_strict();
+        assert_eq!(refused, [!too_strict, too_strict], "{fault:?}");
+    }
+}
+
+/// The current priorities and the ids in the boxes after a history.
+fn end<M: Model>(model: &M, history: &History) -> (Vec<u16>, Vec<u16>) {
+    let (_, mut state) = model.make(history.n, history.m);
+    model.run(&mut state, &history.commands);
+    let controller = model.read(&state);
+    let boxes = controller.used_cores().iter().map(|core| core.message.id);
+    (controller.current_priorities(), boxes.collect())
+}
+
+/// Its last command tells every model under which it still ends [9,3], both boxes full.
+#[test]
+fn run_of_request_2_tells_its_former_end() {
+    let run = run_of_request_2();
+    assert_eq!(end(&Reference, &run), (vec![3, 9], vec![0, 9]));
+    for fault in [
+        Fault::TieToTheLowestNumber,
+        Fault::TieToTheEmptyBox,
+        Fault::WithoutRequest2,
+    ] {
+        let right = &Faulty { fault };
+        assert_eq!(end(right, &run), (vec![9, 3], vec![9, 3]), "{fault:?}");
+        let comparison = Comparison {
+            left: &Reference,
+            right,
+            seed: run.seed,
+        };
+        let difference = comparison.history(&run).expect("the ends differ");
+        assert_eq!(difference.index, run.commands.len() - 1, "{fault:?}");
+        assert_eq!(difference.call, Call::Execute(trigger(9)), "{fault:?}");
+    }
+}
+
 #[test]
 fn every_forgotten_clause_is_found() {
-    for clause in Clause::ALL {
+    for clause in clauses_that_fail_alone() {
         let fault = Fault::Forgets(clause);
         let found = first_difference(&Faulty { fault }, 60);
         assert!(found.is_some(), "{fault:?}");

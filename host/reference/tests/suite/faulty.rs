@@ -28,6 +28,25 @@ pub enum Fault {
     DeliversMasked,
     BoxedRequestsComplete,
     PriorityCheckedBeforeTheId,
+    // Ties between cores that request 2/14 rules out.
+    TieToTheLowestNumber,
+    TieToTheEmptyBox,
+    TieToTheHigherFilledBox,
+    TieToTheHigherEmptyBox,
+    FilledBoxBeforeALowerPriority,
+    // Its clause of a sound state, wrong.
+    /// A covered priority isn't above any filled box's.
+    ClauseNotAbove,
+    /// A covered priority is below every core's current priority.
+    ClauseOfTheLeastCurrent,
+    /// Each core is compared with its own box only.
+    ClauseOfTheOwnBox,
+    /// Each core is compared with every box but its own, by either clause.
+    ClauseOfOtherBoxes,
+    /// Each core is compared with the boxes up to its own, as a pass meets them.
+    ClauseOfBoxesBefore,
+    /// Neither its tie nor its clause.
+    WithoutRequest2,
     /// A state that violates this clause alone is taken for sound and handed back.
     Forgets(Clause),
     /// An accepted command hands back the right state but for this field of one record.
@@ -119,7 +138,31 @@ impl Field {
 }
 
 impl Fault {
-    /// All faults but the forgotten clauses and the written fields.
+    /// Wrong choices between cores of least current priority, and the one that goes past it.
+    pub const TIES: [Fault; 6] = [
+        Fault::TieToTheHigherCore,
+        Fault::TieToTheLowestNumber,
+        Fault::TieToTheEmptyBox,
+        Fault::TieToTheHigherFilledBox,
+        Fault::TieToTheHigherEmptyBox,
+        Fault::FilledBoxBeforeALowerPriority,
+    ];
+
+    /// Wrong clauses of covered priorities below boxes. That it is left out is [`Fault::Forgets`].
+    pub const CLAUSES: [Fault; 5] = [
+        Fault::ClauseNotAbove,
+        Fault::ClauseOfTheLeastCurrent,
+        Fault::ClauseOfTheOwnBox,
+        Fault::ClauseOfOtherBoxes,
+        Fault::ClauseOfBoxesBefore,
+    ];
+
+    /// Of the wrong clauses one refuses sound states; the others take broken ones.
+    pub fn is_too_strict(self) -> bool {
+        self == Fault::ClauseOfTheLeastCurrent
+    }
+
+    /// All faults but the ties, the clauses, the forgotten ones and the written fields.
     pub const ALL: [Fault; 25] = [
         Fault::AtLeast,
         Fault::OnlyWrittenBoxDirty,
@@ -132,10 +175,10 @@ impl Fault {
         Fault::OnlySetsFlagsAfterTheFirstDelivery,
         Fault::AlwaysReports2mCycles,
         Fault::TieToTheHigherId,
-        Fault::TieToTheHigherCore,
         Fault::DeliversMasked,
         Fault::BoxedRequestsComplete,
         Fault::PriorityCheckedBeforeTheId,
+        Fault::WithoutRequest2,
         Fault::MakesSizesOutOfRange,
         Fault::ListEndsAtARefusal,
         Fault::SearchSkipsPriority0,
@@ -160,8 +203,45 @@ impl Faulty {
         self.fault == fault
     }
 
+    /// Whether a state is taken for sound.
+    fn is_sound(&self, controller: &Controller) -> bool {
+        let mut violated = violated(controller);
+        if Fault::CLAUSES.contains(&self.fault) || self.has(Fault::WithoutRequest2) {
+            violated.retain(|&clause| clause != Clause::ConfiguredUnderBoxBelowBoxes);
+        }
+        if self.has(Fault::ClauseOfOtherBoxes) {
+            violated.retain(|&clause| clause != Clause::BoxAboveConfigured);
+        }
+        violated.is_empty() && self.wrong_clause_holds(controller)
+    }
+
+    /// What the model has in place of the clause of request 2/14.
+    fn wrong_clause_holds(&self, controller: &Controller) -> bool {
+        let cores = controller.used_cores().iter().enumerate();
+        let filled: Vec<(usize, &Core)> = cores.filter(|(_, core)| core.message.filled).collect();
+        let least = controller.current_priorities().into_iter().min();
+        filled.iter().all(|&(at, core)| {
+            let covered = core.configured;
+            filled.iter().all(|&(other, Core { message, .. })| {
+                let below = covered < message.priority;
+                match self.fault {
+                    Fault::ClauseNotAbove => covered <= message.priority,
+                    Fault::ClauseOfTheLeastCurrent => Some(covered) < least,
+                    Fault::ClauseOfTheOwnBox => below || other != at,
+                    Fault::ClauseOfOtherBoxes => below || other == at,
+                    Fault::ClauseOfBoxesBefore => below || other > at,
+                    _ => true,
+                }
+            })
+        })
+    }
+
     fn check(&self, controller: &Controller, command: Command) -> Result<(), Refusal> {
-        let checked = reference::check(controller, command);
+        let checked = if self.is_sound(controller) {
+            reference::check_command(controller, command)
+        } else {
+            Err(Refusal::Unsound)
+        };
         match (checked, command) {
             (Ok(()), _) if self.has(Fault::RefusesEverything) => Err(Refusal::Unsound),
             (Err(Refusal::Source), Command::SetSourcePriority(_, 0))
@@ -274,14 +354,19 @@ impl Faulty {
     }
 
     fn target(&self, controller: &Controller, request: u16) -> CoreNumber {
-        let current = |core: CoreNumber| controller.core(core).current_priority();
+        let current = |&core: &CoreNumber| controller.core(core).current_priority();
+        let filled = |core: &CoreNumber| controller.core(*core).message.filled;
         let least = reference::least_core(controller);
         let mut numbers = controller.core_numbers();
+        let mut tied = reference::least_cores(controller).into_iter();
         let chosen = match self.fault {
-            Fault::AnyCoreBelow => numbers.find(|&core| current(core) < request),
-            Fault::TieToTheHigherCore => numbers
-                .filter(|&core| current(core) == current(least))
-                .last(),
+            Fault::AnyCoreBelow => numbers.find(|core| current(core) < request),
+            Fault::TieToTheHigherCore => tied.last(),
+            Fault::TieToTheLowestNumber | Fault::WithoutRequest2 => tied.next(),
+            Fault::TieToTheEmptyBox => tied.find(|core| !filled(core)),
+            Fault::TieToTheHigherFilledBox => tied.rfind(filled),
+            Fault::TieToTheHigherEmptyBox if !filled(&least) => tied.last(),
+            Fault::FilledBoxBeforeALowerPriority => numbers.filter(filled).min_by_key(current),
             _ => None,
         };
         chosen.unwrap_or(least)

@@ -52,9 +52,22 @@ impl Run {
 
     /// The same with one source still masked; 0 means none.
     pub fn table_but_masked(masked: u16) -> Run {
-        let mut run = Run {
-            controller: Controller::reset(32, 2),
-        };
+        Run::unmasked(Controller::reset(32, 2), masked)
+    }
+
+    /// The table's sources on cores set to these priorities.
+    pub fn on_cores(priorities: &[u16]) -> Run {
+        let fresh = Controller::reset(32, priorities.len() as u16);
+        let mut run = Run::unmasked(fresh, 0);
+        for (core, &priority) in (0..).zip(priorities) {
+            run.accept(set_core(core, priority));
+        }
+        run
+    }
+
+    /// A fresh controller of 32 sources, set as the table has them.
+    fn unmasked(controller: Controller, masked: u16) -> Run {
+        let mut run = Run { controller };
         for id in 1..=32 {
             run.accept(set_source(id, id));
             if id != masked {
@@ -75,7 +88,7 @@ impl Run {
     }
 
     /// The command is accepted with id 0, these cycles and these current priorities.
-    pub fn settles(&mut self, command: Command, cycles: u16, current: [u16; 2]) {
+    pub fn settles<const M: usize>(&mut self, command: Command, cycles: u16, current: [u16; M]) {
         let answer = self.accept(command);
         assert_eq!((answer.id, answer.cycles), (0, cycles), "{command:?}");
         assert_eq!(self.controller.current_priorities(), current, "{command:?}");
@@ -119,6 +132,21 @@ pub fn cycles_of(controller: &Controller, command: Command) -> (u16, u16) {
     (retractions, deliveries)
 }
 
+/// The states from which a command that isn't refused delivers, one for each delivery.
+pub fn deliveries_of(controller: &Controller, command: Command) -> Vec<Controller> {
+    let mut controller = controller.clone();
+    reference::apply(&mut controller, command);
+    let mut delivering = Vec::new();
+    loop {
+        let before = controller.clone();
+        match reference::settle_cycle(&mut controller) {
+            Some(Cycle::Retraction) => {}
+            Some(Cycle::Delivery) => delivering.push(before),
+            None => return delivering,
+        }
+    }
+}
+
 /// One command of a history, with the states around it and the ledger after it.
 pub struct Step<'a> {
     pub before: &'a Controller,
@@ -149,13 +177,28 @@ pub fn for_each_step(history: &History, mut visit: impl FnMut(usize, Step)) {
     }
 }
 
-/// Random histories of any size, in both mixes.
+/// The run of request 2/14: source 3 at 3 and source 9 at 9, on cores at 3 and 1.
+pub fn run_of_request_2() -> History {
+    let mut commands = Vec::new();
+    for id in [3, 9] {
+        commands.extend([set_source(id, id), unmask(id)]);
+    }
+    commands.extend([set_core(0, 3), set_core(1, 1), trigger(3), trigger(9)]);
+    History {
+        seed: 0,
+        n: 32,
+        m: 2,
+        commands,
+    }
+}
+
+/// Random histories of any size, in every mix.
 pub fn random_histories(seed: u64, count: usize, length: usize) -> Vec<History> {
     let mut random = Random::new(seed);
     (0..count)
         .map(|index| {
             let (n, m) = generate::sizes(&mut random);
-            let mix = [Mix::Even, Mix::Busy][index % 2];
+            let mix = Mix::ALL[index % Mix::ALL.len()];
             generate::history(random.bits(), n, m, length, mix)
         })
         .collect()

@@ -1,10 +1,12 @@
-//! Document 01's table of runs. T3 to T8 go on from one another.
+//! Document 01's table of runs, and the run of document 02's request 2/14. T3 to T8 go on from one
+//! another.
 
-use psic_reference::records::Controller;
-use psic_reference::reference::{make, top_priority};
+use psic_reference::records::{Controller, CoreNumber, SourceId};
+use psic_reference::reference::{apply, deliver, make, top_priority};
+use psic_reference::well_formed::{violated, Clause};
 
 use crate::histories::{
-    claim, complete, cycles_of, mask, redeliver, set_core, set_source, trigger, Run,
+    claim, complete, cycles_of, mask, redeliver, set_core, set_source, trigger, unmask, Run,
 };
 
 fn after_t2() -> Run {
@@ -121,6 +123,52 @@ fn t12_second_trigger_is_refused() {
     let mut run = Run::table();
     run.accept(trigger(4));
     run.refuses(trigger(4), 6);
+}
+
+/// Cores set to 3 and 1, and a request of 3.
+fn before_the_request_of_9() -> Run {
+    let mut run = Run::table();
+    run.accept(set_core(0, 3));
+    run.accept(set_core(1, 1));
+    run.settles(trigger(3), 1, [3, 3]);
+    assert_eq!(run.boxes(), [0, 3]);
+    run
+}
+
+#[test]
+fn run_of_request_2_leaves_core_0_alone() {
+    let mut run = before_the_request_of_9();
+    assert_eq!(cycles_of(&run.controller, trigger(9)), (0, 1));
+    run.settles(trigger(9), 1, [3, 9]);
+    assert_eq!(run.boxes(), [0, 9]);
+    assert!(!run.controller.cores[0].message.filled);
+    assert!(run.source(3).is_waiting());
+    assert_eq!(run.accept(claim(1)).id, 9);
+    run.refuses(claim(0), 7);
+}
+
+/// [9,3] with both boxes full, as document 01 alone had it.
+#[test]
+fn former_end_of_that_run_is_refused_by_1() {
+    let mut run = before_the_request_of_9();
+    apply(&mut run.controller, trigger(9));
+    deliver(&mut run.controller, SourceId(9), CoreNumber(0));
+    assert_eq!(run.controller.current_priorities(), [9, 3]);
+    assert_eq!(run.boxes(), [9, 3]);
+    let broken = [Clause::ConfiguredUnderBoxBelowBoxes];
+    assert_eq!(violated(&run.controller), broken);
+    for command in [
+        set_source(4, 4),
+        mask(4),
+        unmask(4),
+        set_core(0, 0),
+        trigger(4),
+        claim(0),
+        redeliver(4),
+        complete(4),
+    ] {
+        run.refuses(command, 1);
+    }
 }
 
 #[test]

@@ -48,9 +48,35 @@ fn each_clause_violated_alone_is_refused_by_1() {
             }
         }
     }
-    for clause in Clause::ALL {
+    for clause in clauses_that_fail_alone() {
         assert!(alone.contains(&clause), "{clause:?} never violated alone");
     }
+}
+
+/// All clauses but one: that a box is above its own core is also said by the clause of request 2/14.
+pub fn clauses_that_fail_alone() -> impl Iterator<Item = Clause> {
+    let all = Clause::ALL.into_iter();
+    all.filter(|&clause| clause != Clause::BoxAboveConfigured)
+}
+
+/// So the two are violated together, and nothing else need be.
+#[test]
+fn box_that_is_not_above_its_core_is_not_above_every_covered_priority() {
+    let mut random = Random::new(run_seed());
+    let both = [
+        Clause::BoxAboveConfigured,
+        Clause::ConfiguredUnderBoxBelowBoxes,
+    ];
+    let mut alone = 0;
+    for sound in sound_states(run_seed() ^ 12, 100) {
+        let mut broken = sound;
+        if damage::violate(&mut random, &mut broken, Clause::BoxAboveConfigured) {
+            assert!(!Clause::ConfiguredUnderBoxBelowBoxes.holds(&broken));
+            alone += usize::from(violated(&broken) == both);
+        }
+    }
+    println!("{alone} states violate these two alone");
+    assert!(alone > 0);
 }
 
 #[test]
@@ -116,7 +142,7 @@ fn any_record_is_answered() {
 type Edit = (&'static str, fn(&mut Controller));
 
 /// At T4 source 4 lies in core 0's box, 5 in core 1's, and 3 waits. n = 32, m = 2, top is 127.
-const EDITS_OF_T4: [Edit; 33] = [
+const EDITS_OF_T4: [Edit; 34] = [
     ("n is 0", |c| c.n = 0),
     ("n is 129", |c| c.n = 129),
     ("m is 0", |c| c.m = 0),
@@ -194,6 +220,9 @@ const EDITS_OF_T4: [Edit; 33] = [
         c.cores[0].message = MessageBox::EMPTY;
         c.cores[1].configured = 1;
     }),
+    ("configured under a box at another box's priority", |c| {
+        c.cores[1].configured = 4
+    }),
 ];
 
 /// An unmasked source that isn't pending.
@@ -218,6 +247,115 @@ fn each_edit_of_a_sound_state_is_refused_by_1() {
         assert!(!well_formed(&broken), "{name}");
         assert_refused_by_1(&mut random, &broken);
     }
+}
+
+/// A state of 32 sources and these cores, each a configured priority and a box's, 0 for an empty
+/// one. The box of core k holds the request of source k + 1.
+fn with_cores(cores: &[(u16, u16)]) -> Controller {
+    let mut controller = Controller::reset(32, cores.len() as u16);
+    for (number, &(configured, priority)) in cores.iter().enumerate() {
+        let source = &mut controller.sources[number];
+        let filled = priority > 0;
+        (source.pending, source.delivered) = (filled, filled);
+        source.request = priority;
+        let id = if filled { number as u16 + 1 } else { 0 };
+        set_up(&mut controller, number, configured, id);
+    }
+    controller
+}
+
+/// The clause of request 2/14 fails, and no other does.
+fn assert_covered_too_high(cores: &[(u16, u16)]) {
+    let broken = with_cores(cores);
+    let alone = [Clause::ConfiguredUnderBoxBelowBoxes];
+    assert_eq!(violated(&broken), alone, "{cores:?}");
+    assert_refused_by_1(&mut Random::new(run_seed()), &broken);
+}
+
+fn assert_sound(cores: &[(u16, u16)]) {
+    assert_eq!(violated(&with_cores(cores)), [], "{cores:?}");
+}
+
+/// At the border: equal is refused, one below is not; on either side.
+#[test]
+fn configured_under_a_box_is_strictly_below_another_box() {
+    assert_covered_too_high(&[(3, 9), (1, 3)]);
+    assert_sound(&[(2, 9), (1, 3)]);
+    assert_covered_too_high(&[(1, 3), (3, 9)]);
+    assert_sound(&[(1, 3), (2, 9)]);
+    // Boxes and covered priorities alike, up to the top one.
+    assert_sound(&[(2, 3), (2, 3)]);
+    assert_sound(&[(126, 127), (126, 127)]);
+    assert_covered_too_high(&[(126, 127), (125, 126)]);
+}
+
+/// A box and its own core are a pair too, with any number of cores.
+#[test]
+fn configured_under_a_box_is_strictly_below_its_own_box() {
+    let both = [
+        Clause::BoxAboveConfigured,
+        Clause::ConfiguredUnderBoxBelowBoxes,
+    ];
+    for others in [&[][..], &[(0, 9)], &[(5, 0), (0, 3)]] {
+        let cores = |configured| [&[(configured, 3)], others].concat();
+        assert_eq!(violated(&with_cores(&cores(3))), both, "{others:?}");
+        assert_sound(&cores(2));
+    }
+}
+
+/// Of 32 cores each one against each other's box: the others are a step higher.
+#[test]
+fn every_pair_of_boxes_is_compared() {
+    for covered in 0..32 {
+        for lowest in (0..32).filter(|&lowest| lowest != covered) {
+            let mut cores = [(0, 21); 32];
+            cores[lowest].1 = 20;
+            cores[covered].0 = 20;
+            assert_covered_too_high(&cores);
+            cores[covered].0 = 19;
+            assert_sound(&cores);
+        }
+    }
+}
+
+#[test]
+fn core_of_an_empty_box_may_be_as_high_as_any_box() {
+    for configured in [3, 4, 9, 10, 127] {
+        assert_sound(&[(configured, 0), (1, 3), (2, 9)]);
+        assert_sound(&[(1, 3), (configured, 0), (2, 9)]);
+    }
+}
+
+#[test]
+fn clause_says_nothing_where_no_box_is_filled() {
+    for first in 0..=127 {
+        assert_sound(&[(first, 0)]);
+        for second in [0, 1, 64, 126, 127] {
+            assert_sound(&[(first, 0), (second, 0)]);
+        }
+    }
+}
+
+/// The pairs say what the two ends say: the greatest covered priority is below the least box's.
+#[test]
+fn clause_is_that_of_the_greatest_covered_priority_and_the_least_box() {
+    let kinds: Vec<(u16, u16)> = (0..16).map(|kind| (kind / 4, kind % 4)).collect();
+    let mut holding = 0;
+    for &first in &kinds {
+        for &second in &kinds {
+            for &third in &kinds {
+                let cores = [first, second, third];
+                let filled = cores.iter().filter(|(_, priority)| *priority > 0);
+                let covered = filled.clone().map(|&(configured, _)| configured).max();
+                let lowest = filled.map(|&(_, priority)| priority).min();
+                let expected = covered.is_none() || covered < lowest;
+                let holds = Clause::ConfiguredUnderBoxBelowBoxes.holds(&with_cores(&cores));
+                assert_eq!(holds, expected, "{cores:?}");
+                holding += usize::from(holds);
+            }
+        }
+    }
+    println!("{holding} of 4096 states hold it");
 }
 
 /// Counted by hand, top priority 3. With configured priority (3) and mask (2): not pending, 4 core
@@ -269,12 +407,38 @@ fn every_sound_state_of_one_source_and_one_core_is_reached() {
     assert_eq!(reached, SOUND_AT_ONE_SOURCE_AND_ONE_CORE);
 }
 
+/// Counted by hand, priorities up to 2: a box of 2 on a core at 1, the other of 1 on a core at 0.
+/// On either core, of either source, with each source's configured priority (2) and mask (2).
+const RULED_OUT_BY_REQUEST_2: usize = 2 * 2 * 4 * 4;
+
 /// All sound states with priorities up to 2, reached by a run or not.
 #[test]
 fn every_sound_state_of_two_sources_and_two_cores_stays_sound() {
     let commands = alphabet(2, 2, &[1, 2], &[0, 1, 2]);
-    let sources = sources(&[1, 2], &[0, 1, 2]);
     let mut shapes = HashSet::new();
+    let mut ruled_out = 0;
+    for_every_state_of_two_sources_and_two_cores(|boxes, controller| {
+        if !well_formed(&controller) {
+            let alone = [Clause::ConfiguredUnderBoxBelowBoxes];
+            ruled_out += usize::from(violated(&controller) == alone);
+            return;
+        }
+        shapes.insert(boxes);
+        for &command in &commands {
+            let mut after = controller.clone();
+            execute(&mut after, command);
+            assert!(well_formed(&after), "{command:?} on {controller:?}");
+        }
+    });
+    // Every way of filling two boxes from two sources, but one source in both.
+    assert_eq!(shapes, HashSet::from([0, 1, 2, 3, 5, 6, 7]));
+    assert_eq!(ruled_out, RULED_OUT_BY_REQUEST_2);
+}
+
+/// Every state with priorities up to 2 whose boxes have their requests' priorities and aren't dirty,
+/// with a number for the two ids in the boxes.
+fn for_every_state_of_two_sources_and_two_cores(mut visit: impl FnMut(u16, Controller)) {
+    let sources = sources(&[1, 2], &[0, 1, 2]);
     for first in &sources {
         for second in &sources {
             for boxes in 0..9 {
@@ -282,35 +446,27 @@ fn every_sound_state_of_two_sources_and_two_cores_stays_sound() {
                     let mut controller = Controller::reset(2, 2);
                     controller.sources[0] = *first;
                     controller.sources[1] = *second;
-                    for (core, id, priority) in [
-                        (0, boxes % 3, configured % 3),
-                        (1, boxes / 3, configured / 3),
-                    ] {
-                        controller.cores[core].configured = priority;
-                        if id > 0 {
-                            controller.cores[core].message = MessageBox {
-                                filled: true,
-                                dirty: false,
-                                id,
-                                priority: controller.sources[usize::from(id) - 1].request,
-                            };
-                        }
-                    }
-                    if !well_formed(&controller) {
-                        continue;
-                    }
-                    shapes.insert(boxes);
-                    for &command in &commands {
-                        let mut after = controller.clone();
-                        execute(&mut after, command);
-                        assert!(well_formed(&after), "{command:?} on {controller:?}");
-                    }
+                    set_up(&mut controller, 0, configured % 3, boxes % 3);
+                    set_up(&mut controller, 1, configured / 3, boxes / 3);
+                    visit(boxes, controller);
                 }
             }
         }
     }
-    // Every way of filling two boxes from two sources, but one source in both.
-    assert_eq!(shapes, HashSet::from([0, 1, 2, 3, 5, 6, 7]));
+}
+
+/// Sets a core's configured priority and puts the request of this source into its box; 0 leaves it
+/// empty.
+fn set_up(controller: &mut Controller, core: usize, configured: u16, id: u16) {
+    controller.cores[core].configured = configured;
+    if id > 0 {
+        controller.cores[core].message = MessageBox {
+            filled: true,
+            dirty: false,
+            id,
+            priority: controller.sources[usize::from(id) - 1].request,
+        };
+    }
 }
 
 /// Every source record with these configured and request priorities.

@@ -105,7 +105,7 @@ fn by_fast(n: u16, m: u16, commands: &[Command]) -> Vec<Answer> {
     commands
         .iter()
         .map(|&command| {
-            let outcome = controller.execute(fast_command(command));
+            let outcome = controller.execute(fast::Command::from(command));
             Answer {
                 number: outcome.number,
                 id: outcome.id,
@@ -113,19 +113,6 @@ fn by_fast(n: u16, m: u16, commands: &[Command]) -> Vec<Answer> {
             }
         })
         .collect()
-}
-
-fn fast_command(command: Command) -> fast::Command {
-    match command {
-        Command::SetSourcePriority(id, p) => fast::Command::SetSourcePriority(id.0, p),
-        Command::Mask(id) => fast::Command::Mask(id.0),
-        Command::Unmask(id) => fast::Command::Unmask(id.0),
-        Command::SetCorePriority(core, p) => fast::Command::SetCorePriority(core.0, p),
-        Command::Trigger(id) => fast::Command::Trigger(id.0),
-        Command::Claim(core) => fast::Command::Claim(core.0),
-        Command::Redeliver(id) => fast::Command::Redeliver(id.0),
-        Command::Complete(id) => fast::Command::Complete(id.0),
-    }
 }
 
 fn read_by_library(text: &[u8]) -> u64 {

@@ -99,7 +99,7 @@ fn clock() -> u64 {
 fn broken_states(seed: u64, length: usize) -> usize {
     let mut random = Random::new(seed);
     let (n, m) = generate::sizes(&mut random);
-    let mix = random.pick(&[Mix::Even, Mix::Busy]);
+    let mix = random.pick(&Mix::ALL);
     let history = generate::history(random.bits(), n, m, length, mix);
     damage::broken_states(&mut random, &generate::final_state(&history)).len()
 }
