@@ -1,13 +1,14 @@
--- What is claimed of the readings. Propositions only; each is proved in the crate `readings`, those of the replay in `replay`. Assumes
+-- What is claimed of the readings. Propositions only; each is proved in the crate `readings`, those of the replay in `theorems`. Assumes
 -- nothing.
 -- Source: document 01, "The bus monitor's text"; request 1/14.
 use Prim.Native.Nat.{ℕ, suc, _+_, _<_, _≤_}
 use mathlib.Core.Path.{_≡_}
 use mathlib.Core.Logic.{_↔_, _≢_}
 use mathlib.Core.List.{List, [], _∷_, _++_, map, List·Memᴰ}
-use mathlib.Core.Bool.{true, false}
+use mathlib.Core.Bool.{Bool, true, false, _&&_}
 use lib.ListN.{length, getD}
-use Rattle.recording.specs.Reading.{finished, isGood, readWord, finish, Progress, progress, readWords, readingWith, reading, timesOf}
+use Rattle.recording.specs.Reading.{isBody, isGood, startsTime, isTime, timeOf, readWord, finish, Progress, progress, readWords}
+use Rattle.recording.specs.Reading.{finished, readingWith, reading, timesOf}
 use Rattle.model.specs.Records.{reset}
 use Rattle.model.specs.Ledger.{opening, ledger, entries}
 use Rattle.model.specs.Statements.{InRange, PriorityStrict}
@@ -69,9 +70,13 @@ StrobesExact =
     (r : Reader) → isGood r ≡ true →
     ((w : Word) → (readWord r w) .strobe ≡ takenAt (endsStamp r w) r) × ((n : ℕ) → (finish n r) .strobe ≡ takenAt (r .stamp .opened) r)
 
+-- The reader, and the commands taken, after some words from the start.
+abbrev pub afterWords : List Word → Progress
+afterWords ws = readWords (progress start []) ws
+
 -- The words of a text, read to the last.
 abbrev pub upTo : List ℕ → Progress
-upTo t = readWords (progress start []) (words t)
+upTo t = afterWords (words t)
 
 -- What follows a fault changes nothing, whatever it is.
 abbrev pub FaultIsFinal : Type 0
@@ -102,9 +107,40 @@ CommandsTaken = (t : List ℕ) → length ((reading t) .commands) ≡ (finished 
 abbrev pub NoMoreThanBytes : Type 0
 NoMoreThanBytes = (t : List ℕ) → length ((reading t) .commands) ≤ length t
 
--- Each command has a time.
+-- ---- the times of the commands
+
+-- After the words ws this word starts with # where a time may stand, so that it ends a stamp and opens the next.
+abbrev pub standsAsTime : List Word → Word → Bool
+standsAsTime ws w = isBody ((afterWords ws) .reader .place) && startsTime (w .bytes)
+
+-- The last time among the words ws is x: one of them stands as a time and spells x, and none behind it stands as a time.
+pub record LastTime (ws : List Word) (x : ℕ) : Type 0 where
+  pub before : List Word
+  pub word : Word
+  pub behind : List Word
+  pub split : ws ≡ before ++ (word ∷ behind)
+  pub stands : standsAsTime before word ≡ true
+  pub spells : (isTime (word .bytes) ≡ true) × (timeOf (word .bytes) ≡ x)
+  pub no-other : (us vs : List Word) (v : Word) → behind ≡ us ++ (v ∷ vs) → standsAsTime (before ++ (word ∷ us)) v ≡ false
+
+-- Command i of a text, counted from 0, is taken after the words ws: at the next word, or at the text's end.
+pub data TakenAfter (t : List ℕ) (i : ℕ) (ws : List Word) : Type 0 where
+  at-word : (w : Word) (rest : List Word) → words t ≡ ws ++ (w ∷ rest) → length ((afterWords ws) .commands) ≡ i →
+      length ((afterWords (ws ++ (w ∷ []))) .commands) ≡ suc i → TakenAfter t i ws
+  at-end : words t ≡ ws → length ((afterWords ws) .commands) ≡ i → length ((reading t) .commands) ≡ suc i → TakenAfter t i ws
+
+-- These are the times of a text's commands.
+pub record Timed (t times : List ℕ) : Type 0 where
+  -- one for each command
+  pub each : length times ≡ length ((reading t) .commands)
+  -- the last time that was read before the word, or the text's end, at which the command is taken
+  pub last : (i : ℕ) → i < length times → (ws : List Word) × TakenAfter t i ws × LastTime ws (getD times i 0)
+  -- a later command has a later time
+  pub rising : (i j : ℕ) → i < j → j < length times → getD times i 0 < getD times j 0
+
+-- No other list has these properties, so that they leave nothing open.
 abbrev pub TimesExact : Type 0
-TimesExact = (t : List ℕ) → length (timesOf t) ≡ length ((reading t) .commands)
+TimesExact = (t times : List ℕ) → Timed t times ↔ (times ≡ timesOf t)
 
 -- ---- the grammar
 
