@@ -12,6 +12,7 @@
 --   Rising          the times of the commands rise
 --   LastTimes       the time of an open stamp is the last one read
 --   Times           the times of the commands are those of their stamps, and nothing else is
+--   WrongTimes      times of which that is false
 --   Agreement       a reader's variables and the declarations of the grammar
 --   Steps           words that show no fault of the grammar
 --   Derived         a text read without a fault is derived
@@ -31,6 +32,7 @@ pub mod Limits
 pub mod Rising
 pub mod LastTimes
 pub mod Times
+pub mod WrongTimes
 pub mod Agreement
 pub mod Steps
 pub mod Derived
