@@ -10,14 +10,16 @@ use lib.ListN.{length, getD}
 use Rattle.recording.specs.Reading.{isBody, isGood, startsTime, isTime, timeOf, readWord, finish, Progress, progress, readWords}
 use Rattle.recording.specs.Reading.{finished, readingWith, reading, timesOf}
 use Rattle.model.specs.Records.{reset}
-use Rattle.model.specs.Ledger.{opening, ledger, entries}
-use Rattle.model.specs.Statements.{InRange, PriorityStrict}
+use Rattle.model.specs.Statements.{InRange}
+use Rattle.layout.specs.Bytes.{RunCall, runCallOf}
+use Rattle.layout.specs.CallStatements.{Strict}
 use Rattle.recording.specs.declared.Reader.{Reader}
 use Rattle.recording.specs.Words.{separator, Word, words}
 use Rattle.recording.specs.Values.{Bit, bx, bz, bitNumber, numeral, extended, valueOf}
 use Rattle.recording.specs.Records.{start}
 use Rattle.recording.specs.Faults.{endsStamp, faultAt, faultAtEnd, takenAt}
 use Rattle.recording.specs.Replay.{replayWith, replayFrom, replayed}
+use Rattle.recording.specs.Calls.{ReplayCall, replayCall}
 use Rattle.recording.specs.Grammar.{Definitions}
 
 -- ---- words
@@ -164,8 +166,14 @@ pub record Replays (n m : ℕ) (t : List ℕ) : Type 0 where
 abbrev pub ReplayExact : Type 0
 ReplayExact = (n m : ℕ) (t : List ℕ) → Replays n m t
 
--- Demand 3 of a replay, whatever the text: also where a fault ended its reading.
+-- What a replay's call has answered and written, as a run of commands: how many, the state's bytes, and the answers' bytes.
+abbrev pub asRun : ReplayCall → RunCall
+asRun call = runCallOf (call .report .count) (call .bytes) (call .answers)
+
+-- Demand 3 of a replay that isn't refused by 2 or 255, whatever the text: also where a fault ended its reading. The ledger is kept from the
+-- reading's commands and from the answers' bytes, and the state is read from the bytes handed back.
 abbrev pub ReplayStrict : Type 0
 ReplayStrict =
-    (n m : ℕ) (t : List ℕ) → InRange n m →
-    PriorityStrict n m (ledger opening (entries (reset n m) ((reading t) .commands))) ((replayed n m t) .state)
+    (n m : ℕ) (t b answers : List ℕ) →
+    let call = replayCall n m t b answers in
+    call .report .number ≢ 2 → call .report .number ≢ 255 → Strict n m ((reading t) .commands) (asRun call)
