@@ -1,17 +1,17 @@
 -- What is claimed of the readings. Propositions only; each is proved in the crate `readings`, those of the replay in `theorems`. Assumes
 -- nothing.
 -- Source: document 01, "The bus monitor's text"; request 1/14.
-use Prim.Native.Nat.{ℕ, suc, _+_, _<_, _≤_}
+use Prim.Native.Nat.{ℕ, suc, _+_, _*_, _<_, _≤_}
 use mathlib.Core.Path.{_≡_}
 use mathlib.Core.Logic.{_↔_, _≢_}
 use mathlib.Core.List.{List, [], _∷_, _++_, map, List·Memᴰ}
 use mathlib.Core.Bool.{Bool, true, false, _&&_}
-use lib.ListN.{length, getD}
+use lib.ListN.{length, getD, take}
 use Rattle.recording.specs.Reading.{isBody, isGood, startsTime, isTime, timeOf, readWord, finish, Progress, progress, readWords}
 use Rattle.recording.specs.Reading.{finished, readingWith, reading, timesOf}
 use Rattle.model.specs.Records.{reset}
 use Rattle.model.specs.Statements.{InRange}
-use Rattle.layout.specs.Bytes.{RunCall, runCallOf}
+use Rattle.layout.specs.Bytes.{commandSize, commandsIn, RunCall, runCallOf}
 use Rattle.layout.specs.CallStatements.{Strict}
 use Rattle.recording.specs.declared.Reader.{Reader}
 use Rattle.recording.specs.Words.{separator, Word, words}
@@ -19,7 +19,7 @@ use Rattle.recording.specs.Values.{Bit, bx, bz, bitNumber, numeral, exte
 use Rattle.recording.specs.Records.{start}
 use Rattle.recording.specs.Faults.{endsStamp, faultAt, faultAtEnd, takenAt}
 use Rattle.recording.specs.Replay.{replayWith, replayFrom, replayed}
-use Rattle.recording.specs.Calls.{ReplayCall, replayCall}
+use Rattle.recording.specs.Calls.{ReadCall, readCall, ReplayCall, replayCall}
 use Rattle.recording.specs.Grammar.{Definitions}
 
 -- ---- words
@@ -165,6 +165,19 @@ pub record Replays (n m : ℕ) (t : List ℕ) : Type 0 where
 
 abbrev pub ReplayExact : Type 0
 ReplayExact = (n m : ℕ) (t : List ℕ) → Replays n m t
+
+-- ---- the calls for hosts
+
+-- The reading's commands, and their times, are read back from what a call has answered and written.
+pub record TellsReading (t : List ℕ) (call : ReadCall) : Type 0 where
+  pub counted : call .report .count ≡ length ((reading t) .commands)
+  pub commands : commandsIn (take (commandSize * call .report .count) (call .commands)) ≡ (reading t) .commands
+  pub times : take (call .report .count) (call .times) ≡ timesOf t
+
+-- Of any text and any buffers, unless they are refused by 255.
+abbrev pub ReadTells : Type 0
+ReadTells =
+    (t commands times : List ℕ) → (readCall t commands times) .report .number ≢ 255 → TellsReading t (readCall t commands times)
 
 -- What a replay's call has answered and written, as a run of commands: how many, the state's bytes, and the answers' bytes.
 abbrev pub asRun : ReplayCall → RunCall

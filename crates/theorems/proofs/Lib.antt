@@ -2,7 +2,7 @@
 --   Refusals, Rows, Ids, Changes, Owners      demands 1 and 2
 --   Requests .. DemandThree                         demand 3: the ledger as a picture of the state, counting, the theorem over every list
 --   LentClaim, AnswerBytes, LentBytes, RunStrict, CallsStrict    the same of what is lent, and of the hosts' calls
---   Replays, ReplayStrict                                        the same of the replay of a recording
+--   Replays, ReadBytes, ReplayStrict                             the same of the calls on recordings
 --   FailsTwo, FailsThree, FailsRefusals, Hollow, Limits          the statements are false of wrong controllers
 pub mod Owners
 pub mod Refusals
@@ -28,4 +28,5 @@ pub mod FailsRefusals
 pub mod Hollow
 pub mod Limits
 pub mod Replays
+pub mod ReadBytes
 pub mod ReplayStrict
