@@ -45,12 +45,12 @@ module _ (t commands times : List ℕ) where
       let cs = (reading t) .commands in
       let (same, size, fit) = commands-read-back cs in
       let each : length (timesOf t) ≡ length cs = ((times-exact t (timesOf t)) .1 refl) .each in
+      let enough : commandSize * length cs ≤ length commands = omega (arith, commands-fit e, in-room) in
       rw e
       (record {
         counted = refl;
         commands =
-            ap commandsIn (in-front (joined commandBytes cs) commands (commandSize * length cs) size (omega (arith, commands-fit e, in-room)))
-            ∙ same;
+            ap commandsIn (in-front (joined commandBytes cs) commands (commandSize * length cs) size enough) ∙ same;
         times = in-front (timesOf t) times (length cs) each (omega (arith, times-fit e, in-room));
       })
 
