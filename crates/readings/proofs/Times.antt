@@ -19,7 +19,7 @@ use Rattle.recording.specs.Records.{start}
 use Rattle.recording.specs.Stamps.{commandsOf}
 use Rattle.recording.specs.Reading.{isGood, readWord, finish, Progress, progress, advance, readWords, finished, answered, reading, timesAt}
 use Rattle.recording.specs.Reading.{timesFrom, timesOf}
-use Rattle.recording.specs.Statements.{afterWords, upTo, LastTime, TakenAfter, at-word, at-end, Timed, TimesExact}
+use Rattle.recording.specs.Statements.{afterWords, upTo, LastTime, TakenAfter, next-word, text-end, Timed, TimesExact}
 use Rattle.readings.proofs.Cutting.{readWords-commands}
 use Rattle.readings.proofs.Final.{bad-word, bad-finish}
 use Rattle.readings.proofs.Limits.{strobe-most, word-opened, end-opened}
@@ -106,7 +106,7 @@ pub record TakenAt (t : List ℕ) (i : ℕ) (r : Reader) : Type 0 where
 
 taken-time : (t : List ℕ) (i : ℕ) (ws : List Word) → TakenAfter t i ws → TakenAt t i (after ws)
 unfolding timesOf timesFrom reading answered finished advance
-taken-time t i ws (at-word w rest e c d) =
+taken-time t i ws (next-word w rest e c d) =
     let r = after ws in
     let a = readWord r w in
     let one : length (commandsOf (a .strobe)) ≡ 1 = omega (arith, next-count ws w) in
@@ -125,7 +125,7 @@ taken-time t i ws (at-word w rest e c d) =
           ap (λ (l : List ℕ). getD l i 0) whole ∙
           at-seam (timesFrom start ws) (rest-times ++ end) (r .stamp .time) i (omega (arith, times-length start [] ws, c));
     }
-taken-time t i ws (at-end e c d) =
+taken-time t i ws (text-end e c d) =
     let r = after (words t) in
     let a = finish (length t) r in
     let k : count (words t) ≡ i = ap count e ∙ c in
@@ -180,13 +180,13 @@ find-taken t i h = go (flag (ltb i (count (words t))))
     go : Flag (ltb i (count (words t))) → (ws : List Word) × TakenAfter t i ws
     go (on e) =
         let f : Found (words t) i = found [] (words t) i (omega arith) (ltb-true i (count (words t)) e) in
-        (f .before, at-word (f .word) (f .behind) (f .split) (f .first) (f .more))
+        (f .before, next-word (f .word) (f .behind) (f .split) (f .first) (f .more))
     go (off e) =
         let a = finish (length t) (after (words t)) in
         let both : length ((reading t) .commands) ≡ count (words t) + length (commandsOf (a .strobe))
         = length-append ((afterWords (words t)) .commands) (commandsOf (a .strobe)) in (
           words t,
-          at-end refl (omega (arith, ltb-false i (count (words t)) e, strobe-most (a .strobe)))
+          text-end refl (omega (arith, ltb-false i (count (words t)) e, strobe-most (a .strobe)))
               (omega (arith, ltb-false i (count (words t)) e, strobe-most (a .strobe))),
         )
 

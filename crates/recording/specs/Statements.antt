@@ -1,5 +1,5 @@
--- What is claimed of the readings. Propositions only; each is proved in the crate `readings`, those of the replay in `theorems`. Assumes
--- nothing.
+-- What is claimed of the readings. Propositions only; each is proved in the crate `readings`, those of the replay and of the calls in
+-- `theorems`. Assumes nothing.
 -- Source: document 01, "The bus monitor's text"; request 1/14.
 use Prim.Native.Nat.{ℕ, suc, _+_, _*_, _<_, _≤_}
 use mathlib.Core.Path.{_≡_}
@@ -111,7 +111,7 @@ NoMoreThanBytes = (t : List ℕ) → length ((reading t) .commands) ≤ length t
 
 -- ---- the times of the commands
 
--- After the words ws this word starts with # where a time may stand, so that it ends a stamp and opens the next.
+-- After the words ws this word starts with # where a time may stand.
 abbrev pub standsAsTime : List Word → Word → Bool
 standsAsTime ws w = isBody ((afterWords ws) .reader .place) && startsTime (w .bytes)
 
@@ -127,9 +127,9 @@ pub record LastTime (ws : List Word) (x : ℕ) : Type 0 where
 
 -- Command i of a text, counted from 0, is taken after the words ws: at the next word, or at the text's end.
 pub data TakenAfter (t : List ℕ) (i : ℕ) (ws : List Word) : Type 0 where
-  at-word : (w : Word) (rest : List Word) → words t ≡ ws ++ (w ∷ rest) → length ((afterWords ws) .commands) ≡ i →
+  next-word : (w : Word) (rest : List Word) → words t ≡ ws ++ (w ∷ rest) → length ((afterWords ws) .commands) ≡ i →
       length ((afterWords (ws ++ (w ∷ []))) .commands) ≡ suc i → TakenAfter t i ws
-  at-end : words t ≡ ws → length ((afterWords ws) .commands) ≡ i → length ((reading t) .commands) ≡ suc i → TakenAfter t i ws
+  text-end : words t ≡ ws → length ((afterWords ws) .commands) ≡ i → length ((reading t) .commands) ≡ suc i → TakenAfter t i ws
 
 -- These are the times of a text's commands.
 pub record Timed (t times : List ℕ) : Type 0 where
