@@ -1,5 +1,5 @@
 // A state as bytes, read and written, with a word, a command and an answer, and a command from its numbers. The layout is that of
-// model/specs/Bytes.antt. Calls for the exports, which test lengths first; the program cases reads its commands here too.
+// layout/specs/Bytes.antt. Calls for the exports, which test lengths first; the program cases reads its commands here too.
 ghost use Prim.Native.Nat.{_+_, _<_, _≤_};
 ghost use mathlib.Core.Path.{_≡_};
 ghost use mathlib.Core.List.{_∷_, _++_};

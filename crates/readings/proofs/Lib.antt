@@ -5,9 +5,14 @@
 --   Extension       the value of an extended vector
 --   Faults          which fault and which command a word shows
 --   Final           what follows a fault changes nothing; where a fault is shown
+--   Opening         which words open a stamp, and which leave it alone
 --   Commanded       cmd holds a number from 0 to 7
 --   Counted         at most 65,535 commands, and one for each strobe
---   Limits          no more commands than bytes, and a time for each command
+--   Limits          no more commands than bytes
+--   Rising          the times of the commands rise
+--   LastTimes       the time of an open stamp is the last one read
+--   Times           the times of the commands are those of their stamps, and nothing else is
+--   WrongTimes      times of which that is false
 --   Agreement       a reader's variables and the declarations of the grammar
 --   Steps           words that show no fault of the grammar
 --   Derived         a text read without a fault is derived
@@ -20,9 +25,14 @@ pub mod Words
 pub mod Extension
 pub mod Faults
 pub mod Final
+pub mod Opening
 pub mod Commanded
 pub mod Counted
 pub mod Limits
+pub mod Rising
+pub mod LastTimes
+pub mod Times
+pub mod WrongTimes
 pub mod Agreement
 pub mod Steps
 pub mod Derived

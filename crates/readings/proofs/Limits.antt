@@ -1,16 +1,14 @@
--- No more commands than bytes (`NoMoreThanBytes`), and a time for each command (`TimesExact`). Assumes nothing.
+-- No more commands than bytes (`NoMoreThanBytes`). Assumes nothing.
 --   opens r             1 if a stamp is open, else 0
 --   given-opened        a word, or the end of the text, gives a command only where a stamp is open
 --   commands-words      the commands, and an open stamp, are together no more than the words read
 --   length-words        the words of a text are no more than its bytes
 use Prim.Native.Nat.{ℕ, suc, _+_, _≤_}
-use mathlib.Core.Path.{_≡_}
 use mathlib.Core.List.{List, [], _∷_, _++_}
 use mathlib.Core.Bool.{Bool, true, false, _&&_, cond}
 use native.Mathlib.Omega.{arith}
-use lib.ListN.{length, length-append, length-map}
+use lib.ListN.{length, length-append}
 use Rattle.lists.proofs.Bools.{Flag, on, off, flag}
-use Rattle.model.specs.declared.Command.{Command}
 use Rattle.model.specs.declared.Decoded.{Decoded}
 use Rattle.model.specs.declared.Decoded.the-variants.{Unknown, Known}
 use Rattle.layout.specs.Commands.{commandOf}
@@ -19,22 +17,23 @@ use Rattle.recording.specs.declared.Strobe.{Strobe}
 use Rattle.recording.specs.Words.{separator, Word, closed, cut, words}
 use Rattle.recording.specs.Records.{start}
 use Rattle.recording.specs.Stamps.{named, commandsOf}
-use Rattle.recording.specs.Reading.{isGood, isBody, startsTime, readWord, finish, Progress, progress, advance, readWords, finished, answered, reading, timesAt, timesFrom, timesOf}
+use Rattle.recording.specs.Reading.{isGood, isBody, startsTime, readWord, finish, Progress, progress, advance, readWords, finished}
+use Rattle.recording.specs.Reading.{answered, reading}
 use Rattle.recording.specs.Faults.{takenAt}
-use Rattle.recording.specs.Statements.{upTo, NoMoreThanBytes, TimesExact}
+use Rattle.recording.specs.Statements.{upTo, NoMoreThanBytes}
 use Rattle.readings.proofs.Faults.{strobes-exact}
 use Rattle.readings.proofs.Final.{bad-word, bad-finish}
 
 -- ---- a command is given only where a stamp is open
 
-abbrev opens : Reader → ℕ
+abbrev pub opens : Reader → ℕ
 opens r = cond (r .stamp .opened) 1 0
 
 named-most : (d : Decoded) → length (named d) ≤ 1
 named-most Unknown = omega arith
 named-most (Known c) = omega arith
 
-strobe-most : (s : Strobe) → length (commandsOf s) ≤ 1
+pub strobe-most : (s : Strobe) → length (commandsOf s) ≤ 1
 unfolding commandsOf
 strobe-most s = go (s .given)
   where
@@ -49,7 +48,7 @@ taken-opened r true false = omega arith
 taken-opened r false false = omega arith
 
 module _ (r : Reader) where
-  word-opened : (w : Word) → length (commandsOf ((readWord r w) .strobe)) ≤ opens r
+  pub word-opened : (w : Word) → length (commandsOf ((readWord r w) .strobe)) ≤ opens r
   unfolding commandsOf
   word-opened w = go (flag (isGood r))
     where
@@ -57,7 +56,7 @@ module _ (r : Reader) where
       go (on e) = rw ((strobes-exact r e) .0 w) (taken-opened r (isBody (r .place) && startsTime (w .bytes)) (r .stamp .opened))
       go (off e) = rw (bad-word r w e) (omega arith)
 
-  end-opened : (n : ℕ) → length (commandsOf ((finish n r) .strobe)) ≤ opens r
+  pub end-opened : (n : ℕ) → length (commandsOf ((finish n r) .strobe)) ≤ opens r
   unfolding commandsOf
   end-opened n = go (flag (isGood r))
     where
@@ -110,33 +109,4 @@ no-more-than-bytes t =
       end-opened (p .reader) (length t),
       commands-words (progress start []) (words t) 0 (omega arith),
       length-cut 0 [] t,
-    )
-
--- ---- commands and times
-
-timesFrom-length : (r : Reader) (cs : List Command) (ws : List Word) →
-    length cs + length (timesFrom r ws) ≡ length ((readWords (progress r cs) ws) .commands)
-unfolding timesFrom readWords advance
-timesFrom-length r cs [] = omega arith
-timesFrom-length r cs (w ∷ ws) =
-    let a = readWord r w in
-    omega (
-      arith,
-      length-append (timesAt r a) (timesFrom (a .reader) ws),
-      length-map (commandsOf (a .strobe)) (λ (c : Command). r .stamp .time),
-      length-append cs (commandsOf (a .strobe)),
-      timesFrom-length (a .reader) (cs ++ commandsOf (a .strobe)) ws,
-    )
-
-pub times-exact : TimesExact
-unfolding timesOf reading answered finished advance
-times-exact t =
-    let p = upTo t in
-    let a = finish (length t) (p .reader) in
-    omega (
-      arith,
-      length-append (timesFrom start (words t)) (timesAt (p .reader) a),
-      length-map (commandsOf (a .strobe)) (λ (c : Command). p .reader .stamp .time),
-      length-append (p .commands) (commandsOf (a .strobe)),
-      timesFrom-length start [] (words t),
     )

@@ -1,2 +1,3 @@
 -- What is proved of a recording's definitions.
 pub mod Examples
+pub mod CallExamples

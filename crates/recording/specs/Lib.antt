@@ -10,6 +10,7 @@
 --   Faults        when each fault is shown, number by number, and their order
 --   Grammar       the grammar as derivations, beside the reading
 --   Texts         worked texts, with what each of them says
+--   CallTexts     worked texts of the times, of the replay and of the calls
 --   Statements    what is claimed of all this, as propositions; their proofs are in the crates above this one
 pub mod Words
 pub mod Values
@@ -22,4 +23,5 @@ pub mod Calls
 pub mod Faults
 pub mod Grammar
 pub mod Texts
+pub mod CallTexts
 pub mod Statements

@@ -1,22 +1,25 @@
--- What is claimed of the readings. Propositions only; each is proved in the crate `readings`, those of the replay in `replay`. Assumes
--- nothing.
+-- What is claimed of the readings. Propositions only; each is proved in the crate `readings`, those of the replay and of the calls in
+-- `theorems`. Assumes nothing.
 -- Source: document 01, "The bus monitor's text"; request 1/14.
-use Prim.Native.Nat.{ℕ, suc, _+_, _<_, _≤_}
+use Prim.Native.Nat.{ℕ, suc, _+_, _*_, _<_, _≤_}
 use mathlib.Core.Path.{_≡_}
 use mathlib.Core.Logic.{_↔_, _≢_}
 use mathlib.Core.List.{List, [], _∷_, _++_, map, List·Memᴰ}
-use mathlib.Core.Bool.{true, false}
-use lib.ListN.{length, getD}
-use Rattle.recording.specs.Reading.{finished, isGood, readWord, finish, Progress, progress, readWords, readingWith, reading, timesOf}
+use mathlib.Core.Bool.{Bool, true, false, _&&_}
+use lib.ListN.{length, getD, take}
+use Rattle.recording.specs.Reading.{isBody, isGood, startsTime, isTime, timeOf, readWord, finish, Progress, progress, readWords}
+use Rattle.recording.specs.Reading.{finished, readingWith, reading, timesOf}
 use Rattle.model.specs.Records.{reset}
-use Rattle.model.specs.Ledger.{opening, ledger, entries}
-use Rattle.model.specs.Statements.{InRange, PriorityStrict}
+use Rattle.model.specs.Statements.{InRange}
+use Rattle.layout.specs.Bytes.{commandSize, commandsIn, RunCall, runCallOf}
+use Rattle.layout.specs.CallStatements.{Strict}
 use Rattle.recording.specs.declared.Reader.{Reader}
 use Rattle.recording.specs.Words.{separator, Word, words}
 use Rattle.recording.specs.Values.{Bit, bx, bz, bitNumber, numeral, extended, valueOf}
 use Rattle.recording.specs.Records.{start}
 use Rattle.recording.specs.Faults.{endsStamp, faultAt, faultAtEnd, takenAt}
 use Rattle.recording.specs.Replay.{replayWith, replayFrom, replayed}
+use Rattle.recording.specs.Calls.{ReadCall, readCall, ReplayCall, replayCall}
 use Rattle.recording.specs.Grammar.{Definitions}
 
 -- ---- words
@@ -69,9 +72,13 @@ StrobesExact =
     (r : Reader) → isGood r ≡ true →
     ((w : Word) → (readWord r w) .strobe ≡ takenAt (endsStamp r w) r) × ((n : ℕ) → (finish n r) .strobe ≡ takenAt (r .stamp .opened) r)
 
+-- The reader, and the commands taken, after some words from the start.
+abbrev pub afterWords : List Word → Progress
+afterWords ws = readWords (progress start []) ws
+
 -- The words of a text, read to the last.
 abbrev pub upTo : List ℕ → Progress
-upTo t = readWords (progress start []) (words t)
+upTo t = afterWords (words t)
 
 -- What follows a fault changes nothing, whatever it is.
 abbrev pub FaultIsFinal : Type 0
@@ -102,9 +109,40 @@ CommandsTaken = (t : List ℕ) → length ((reading t) .commands) ≡ (finished 
 abbrev pub NoMoreThanBytes : Type 0
 NoMoreThanBytes = (t : List ℕ) → length ((reading t) .commands) ≤ length t
 
--- Each command has a time.
+-- ---- the times of the commands
+
+-- After the words ws this word starts with # where a time may stand.
+abbrev pub standsAsTime : List Word → Word → Bool
+standsAsTime ws w = isBody ((afterWords ws) .reader .place) && startsTime (w .bytes)
+
+-- The last time among the words ws is x: one of them stands as a time and spells x, and none behind it stands as a time.
+pub record LastTime (ws : List Word) (x : ℕ) : Type 0 where
+  pub before : List Word
+  pub word : Word
+  pub behind : List Word
+  pub split : ws ≡ before ++ (word ∷ behind)
+  pub stands : standsAsTime before word ≡ true
+  pub spells : (isTime (word .bytes) ≡ true) × (timeOf (word .bytes) ≡ x)
+  pub no-other : (us vs : List Word) (v : Word) → behind ≡ us ++ (v ∷ vs) → standsAsTime (before ++ (word ∷ us)) v ≡ false
+
+-- Command i of a text, counted from 0, is taken after the words ws: at the next word, or at the text's end.
+pub data TakenAfter (t : List ℕ) (i : ℕ) (ws : List Word) : Type 0 where
+  next-word : (w : Word) (rest : List Word) → words t ≡ ws ++ (w ∷ rest) → length ((afterWords ws) .commands) ≡ i →
+      length ((afterWords (ws ++ (w ∷ []))) .commands) ≡ suc i → TakenAfter t i ws
+  text-end : words t ≡ ws → length ((afterWords ws) .commands) ≡ i → length ((reading t) .commands) ≡ suc i → TakenAfter t i ws
+
+-- These are the times of a text's commands.
+pub record Timed (t times : List ℕ) : Type 0 where
+  -- one for each command
+  pub each : length times ≡ length ((reading t) .commands)
+  -- the last time that was read before the word, or the text's end, at which the command is taken
+  pub last : (i : ℕ) → i < length times → (ws : List Word) × TakenAfter t i ws × LastTime ws (getD times i 0)
+  -- a later command has a later time
+  pub rising : (i j : ℕ) → i < j → j < length times → getD times i 0 < getD times j 0
+
+-- No other list has these properties, so that they leave nothing open.
 abbrev pub TimesExact : Type 0
-TimesExact = (t : List ℕ) → length (timesOf t) ≡ length ((reading t) .commands)
+TimesExact = (t times : List ℕ) → Timed t times ↔ (times ≡ timesOf t)
 
 -- ---- the grammar
 
@@ -128,8 +166,27 @@ pub record Replays (n m : ℕ) (t : List ℕ) : Type 0 where
 abbrev pub ReplayExact : Type 0
 ReplayExact = (n m : ℕ) (t : List ℕ) → Replays n m t
 
--- Demand 3 of a replay, whatever the text: also where a fault ended its reading.
+-- ---- the calls for hosts
+
+-- The reading's commands, and their times, are read back from what a call has answered and written.
+pub record TellsReading (t : List ℕ) (call : ReadCall) : Type 0 where
+  pub counted : call .report .count ≡ length ((reading t) .commands)
+  pub commands : commandsIn (take (commandSize * call .report .count) (call .commands)) ≡ (reading t) .commands
+  pub times : take (call .report .count) (call .times) ≡ timesOf t
+
+-- Of any text and any buffers, unless they are refused by 255.
+abbrev pub ReadTells : Type 0
+ReadTells =
+    (t commands times : List ℕ) → (readCall t commands times) .report .number ≢ 255 → TellsReading t (readCall t commands times)
+
+-- What a replay's call has answered and written, as a run of commands: how many, the state's bytes, and the answers' bytes.
+abbrev pub asRun : ReplayCall → RunCall
+asRun call = runCallOf (call .report .count) (call .bytes) (call .answers)
+
+-- Demand 3 of a replay that isn't refused by 2 or 255, whatever the text: also where a fault ended its reading. The ledger is kept from the
+-- reading's commands and from the answers' bytes, and the state is read from the bytes handed back.
 abbrev pub ReplayStrict : Type 0
 ReplayStrict =
-    (n m : ℕ) (t : List ℕ) → InRange n m →
-    PriorityStrict n m (ledger opening (entries (reset n m) ((reading t) .commands))) ((replayed n m t) .state)
+    (n m : ℕ) (t b answers : List ℕ) →
+    let call = replayCall n m t b answers in
+    call .report .number ≢ 2 → call .report .number ≢ 255 → Strict n m ((reading t) .commands) (asRun call)

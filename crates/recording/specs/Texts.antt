@@ -4,10 +4,11 @@
 --   wholes         texts from their first byte on
 --   bodies         texts that go on after `definitions`, offsets counted from there
 --   fulls          the same after 65,535 commands
+--   meetings       words at which the conditions of 13, 19, 11 and 14 hold together: the first in this order is given
 use Prim.Native.Nat.{ℕ}
 use Prim.Native.String.{String, _++_}
 use mathlib.Core.List.{List, [], _∷_}
-use mathlib.Core.Bool.{true, false}
+use mathlib.Core.Bool.{Bool, true, false, not, _&&_}
 use lib.ListN.{length}
 use Rattle.model.specs.declared.Command.{Command}
 use Rattle.model.specs.declared.Command.the-variants.{OnSource, OnCore}
@@ -16,10 +17,11 @@ use Rattle.model.specs.declared.CoreAction.the-variants.{Claim}
 use Rattle.model.specs.Records.{sourceId, coreId}
 use Rattle.recording.specs.declared.Place.the-variants.{Body}
 use Rattle.recording.specs.declared.Reader.{Reader}
-use Rattle.recording.specs.Words.{bytesOf, words}
+use Rattle.recording.specs.Words.{bytesOf, Word, wordAt, words}
 use Rattle.recording.specs.Values.{value, unknown, vectorWith}
 use Rattle.recording.specs.Records.{variableWith, variablesWith, pendingWith, stampWith, faultWith, readerWith, withTaken}
 use Rattle.recording.specs.Reading.{progress, readWords, finished, Reading, readingWith, answered}
+use Rattle.recording.specs.Faults.{endsStamp, unclear, excessive, fitsIn, isLate}
 
 pub record Case : Type 0 where
   pub text : String
@@ -104,7 +106,10 @@ bodies =
     case "#0 X! #1" [] 13 6 ∷
     case "#0 1! #1" [] 13 6 ∷
     case "#0 b0 \" b1 $ 1! #1" [] 13 16 ∷
+    case "#0 b100 \" 1! #1" [] 13 13 ∷
     case "#0 b101 \" b11111 # 1! #1" (OnCore (coreId 31) Claim ∷ []) 0 24 ∷
+    -- values go to the controller as read, ids that it will refuse too
+    case "#0 b100 \" b0 $ 1! #1 0! #2 b11111111 $ 1!" (trigger 0 ∷ trigger 255 ∷ []) 0 41 ∷
     -- 11: a word that can't stand there; a code of no variable, or of the wrong kind; too long a vector, shown at its code
     case "#0 $end" [] 11 3 ∷
     case "b1 &" [] 11 3 ∷
@@ -146,6 +151,35 @@ fulls =
     case "#5 b100 \" bx $ 1! #6" [] 13 18 ∷
     case "#5 b100 \" b100 $ #6 $comment 1! $end" [] 0 36 ∷ []
 
+-- ---- where four faults meet
+
+-- The conditions of 13, 19, 11 and 14, in this order: which of them hold of a reader at a word.
+abbrev pub conditions : Reader → Word → List Bool
+conditions r w =
+    (endsStamp r w && unclear r) ∷
+    (endsStamp r w && excessive r) ∷ not (fitsIn (r .place) r (w .bytes)) ∷ isLate r (w .bytes) ∷ []
+
+-- A text that ends in the word, read after 65,535 commands: the conditions at that word, and what the whole says.
+pub record Meeting : Type 0 where
+  pub before : String
+  pub word : String
+  pub hold : List Bool
+  pub says : Reading
+
+meeting : String → String → List Bool → ℕ → ℕ → Meeting
+meeting before word hold number offset = record { before = before; word = word; hold = hold; says = readingWith [] number offset }
+
+-- An x in the id of a trigger, after the last command, at a # without digits, whose number would be 0 and not above 5: all four hold, and
+-- 13 is given. Without the x it is 19; without the strobe 11; at a time that is one 14; and at a later one nothing.
+unfoldable pub meetings : List Meeting
+unfolding meeting
+meetings =
+    meeting "#5 b100 \" bx $ 1! " "#" (true ∷ true ∷ true ∷ true ∷ []) 13 18 ∷
+    meeting "#5 b100 \" b1 $ 1! " "#" (false ∷ true ∷ true ∷ true ∷ []) 19 18 ∷
+    meeting "#5 b100 \" b1 $ 0! " "#" (false ∷ false ∷ true ∷ true ∷ []) 11 18 ∷
+    meeting "#5 b100 \" b1 $ 0! " "#5" (false ∷ false ∷ false ∷ true ∷ []) 14 18 ∷
+    meeting "#5 b100 \" b1 $ 0! " "#6" (false ∷ false ∷ false ∷ false ∷ []) 0 20 ∷ []
+
 -- ---- what is computed
 
 -- A text read by a reader that stands at its first byte.
@@ -159,3 +193,21 @@ said (c ∷ cs) = c .says ∷ said cs
 abbrev pub saidBy : (List ℕ → Reading) → List Case → List Reading
 saidBy f [] = []
 saidBy f (c ∷ cs) = f (bytesOf (c .text)) ∷ saidBy f cs
+
+-- The conditions at the word where they meet, and the whole as a text.
+abbrev pub held : List Meeting → List (List Bool)
+held [] = []
+held (m ∷ ms) = m .hold ∷ held ms
+
+abbrev pub heldAt : Meeting → List Bool
+heldAt m =
+    let before = bytesOf (m .before) in
+    conditions ((readWords (progress full []) (words before)) .reader) (wordAt (length before) (bytesOf (m .word)))
+
+abbrev pub allHeldAt : List Meeting → List (List Bool)
+allHeldAt [] = []
+allHeldAt (m ∷ ms) = heldAt m ∷ allHeldAt ms
+
+abbrev pub casesOf : List Meeting → List Case
+casesOf [] = []
+casesOf (m ∷ ms) = record { text = m .before ++ m .word; says = m .says } ∷ casesOf ms

@@ -2,6 +2,7 @@
 --   Refusals, Rows, Ids, Changes, Owners      demands 1 and 2
 --   Requests .. DemandThree                         demand 3: the ledger as a picture of the state, counting, the theorem over every list
 --   LentClaim, AnswerBytes, LentBytes, RunStrict, CallsStrict    the same of what is lent, and of the hosts' calls
+--   Replays, ReadBytes, ReplayStrict                             the same of the calls on recordings
 --   FailsTwo, FailsThree, FailsRefusals, Hollow, Limits          the statements are false of wrong controllers
 pub mod Owners
 pub mod Refusals
@@ -28,3 +29,5 @@ pub mod FailsRefusals
 pub mod Hollow
 pub mod Limits
 pub mod Replays
+pub mod ReadBytes
+pub mod ReplayStrict

@@ -44,7 +44,7 @@ module _ (n m : ℕ) (R : InRange n m) where
   unfolding makeCall
   fresh b h = rw (eq-eqb _ _ h, makes-exactly n m .0 R)
 
-  ran-strict :
+  pub ran-strict :
       (answers : List ℕ) (cs : List Command) → answerSize * length cs ≤ length answers → Strict n m cs (ranOver answers (reset n m) cs)
   ran-strict answers cs h =
       let s = reset n m in
