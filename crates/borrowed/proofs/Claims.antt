@@ -86,7 +86,9 @@ module _ (c : Core) where
     taken-bad {b = b} e f q =
         q ∙ sym (second (c .message .filled) (claimable c) given bad none (not-false (c .message .filled) filled) (sym e ∙ not-true b f))
 
-    pub taken-good : {r : Taken} {b : Bool} {d : Core} → b ≡ claimable c → not b ≡ false → d ≡ claimedCore c → r ≡ taken 0 (c .message .source) d → r ≡ takenFrom c
+    pub taken-good :
+        {r : Taken} {b : Bool} {d : Core} → b ≡ claimable c → not b ≡ false → d ≡ claimedCore c →
+        r ≡ taken 0 (c .message .source) d → r ≡ takenFrom c
     unfolding takenFrom
     taken-good {b = b} e f g q =
         q ∙ ap (λ (x : Core). taken 0 (c .message .source) x) g ∙

@@ -33,13 +33,17 @@ returns-4 c =
 
 returns-5 : tie.Need-returns-5
 returns-5 c =
-    not-above (c .before .before .before .before .before .before .before .before .before .before .before .args .c) (omega arith) (omega arith) (omega arith)
-    (omega (arith, c .before .before .before .if4 .left, c .before .before .before .before .before .top-priority .ensures)) (c .if5 .taken)
+    let tested = c .before .before .before in
+    let called = tested .before .before in
+    not-above (called .before .before .before .before .before .before .args .c) (omega arith) (omega arith) (omega arith)
+    (omega (arith, tested .if4 .left, called .top-priority .ensures)) (c .if5 .taken)
 
 returns-6 : tie.Need-returns-6
 returns-6 c =
-    clean-only (c .before .before .before .before .before .before .before .before .before .before .before .before .args .c) (omega arith) (omega arith) (omega arith)
-    (omega (arith, c .before .before .before .before .if4 .left, c .before .before .before .before .before .before .top-priority .ensures)) (c .before .if5 .left)
+    let tested = c .before .before .before .before in
+    let called = tested .before .before in
+    clean-only (called .before .before .before .before .before .before .args .c) (omega arith) (omega arith) (omega arith)
+    (omega (arith, tested .if4 .left, called .top-priority .ensures)) (c .before .if5 .left)
 
 pub claimable-spec : {M : Type 1} → statement M
 claimable-spec =
