@@ -53,7 +53,8 @@ number-is s k Claim = refl
 -- ---- claim
 
 pub claim-rests : {s : Controller} {k : CoreId} {a : CoreAction} → a ≡ Claim → AddressedCore s k → coreRefusal s (k .0) a ≡ 0 →
-    {d : Core} → d ≡ claimedCore (coreAt s (k .0)) → answer (withCore s (k .0) d) 0 ((coreAt s (k .0)) .message .source .0) 0 ≡ execute s (OnCore k a)
+    {d : Core} → d ≡ claimedCore (coreAt s (k .0)) →
+    answer (withCore s (k .0) d) 0 ((coreAt s (k .0)) .message .source .0) 0 ≡ execute s (OnCore k a)
 claim-rests {s} {k} {a} is h passes new =
     let unrefused : refusalOf s (OnCore k Claim) ≡ 0 = free s (OnCore k Claim) (h .sound) (h .named) (rw is at passes) in
     let (k-lt, filled) = checked s (OnCore k Claim) unrefused in

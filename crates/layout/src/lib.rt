@@ -1,1 +1,2 @@
-// The bytes of a state, of commands and of answers: definitions alone, in specs/. The code that reads and writes them is in the crate encoding.
+// The bytes of a state, of commands and of answers: definitions alone, in specs/. The code is in the crates decoding, which reads them,
+// and encoding, which writes them.

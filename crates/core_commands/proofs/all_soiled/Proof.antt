@@ -1,4 +1,5 @@
--- `core_commands::all_soiled` meets its contract. The loop's invariant: the first k cores are soiled, the others as they were. Assumes nothing.
+-- `core_commands::all_soiled` meets its contract. The loop's invariant: the first k cores are soiled, the others as they were.
+-- Assumes nothing.
 use Prim.Native.Nat.{_≤_, _-_}
 use mathlib.Core.Path.{_≡_}
 use native.Mathlib.Omega.{arith}
@@ -44,7 +45,8 @@ loop-less c = omega arith
 loop-again : tie.Need-loop-again Inv-loop μ-loop
 loop-again c =
     let at = c .before .before .before in
-    (omega arith, front-more soiled (at .loop .k) (at .before .args .cores) (at .loop .next) noCore (c .soiled .result) (at .loop .inv .1) (c .soiled .ensures))
+    let more = front-more soiled (at .loop .k) (at .before .args .cores) (at .loop .next) noCore in
+    (omega arith, more (c .soiled .result) (at .loop .inv .1) (c .soiled .ensures))
 
 returns : tie.Need-returns Inv-loop μ-loop
 returns c =

@@ -61,7 +61,10 @@ core-number-requires : tie.Need-core-number-requires
 core-number-requires c κs = search needs
 
 -- the number of the later checks
-number-found : (c : tie.After-core-number) → c .core-number .result ≡ coreRefusal (c .before .before .before .before .before .before .before .args .t1) (c .before .before .before .before .before .before .before .args .core .0) (c .before .before .before .before .before .before .before .args .a)
+number-found :
+    (c : tie.After-core-number) →
+    let a = c .before .before .before .before .before .before .before .args in
+    c .core-number .result ≡ coreRefusal (a .t1) (a .core .0) (a .a)
 number-found c =
     let a = c .before .before .before .before .before .before .before .args in
     c .core-number .ensures ∙ number-is (a .t1) (a .core .0) (a .a)
@@ -94,17 +97,24 @@ all-soiled-requires : tie.Need-all-soiled-requires
 all-soiled-requires c κs = search needs
 
 -- the command's own part begins: no check refuses it
-passed : (c : tie.Else3) → coreRefusal (c .before .before .before .before .before .before .before .before .args .t1) (c .before .before .before .before .before .before .before .before .args .core .0) (c .before .before .before .before .before .before .before .before .args .a) ≡ 0
+passed :
+    (c : tie.Else3) →
+    let a = c .before .before .before .before .before .before .before .before .args in
+    coreRefusal (a .t1) (a .core .0) (a .a) ≡ 0
 passed c = sym (number-found (c .before)) ∙ c .if3 .left
 
-addressed-here : (c : tie.Else3) → AddressedCore (c .before .before .before .before .before .before .before .before .args .t1) (c .before .before .before .before .before .before .before .before .args .core)
+addressed-here :
+    (c : tie.Else3) →
+    let a = c .before .before .before .before .before .before .before .before .args in
+    AddressedCore (a .t1) (a .core)
 addressed-here c = here (c .before .before .before .before)
 
 retract-all-requires : tie.Need-retract-all-requires
 retract-all-requires c κs =
-    set-begins (c .before .before .before .before .a .given .1) (addressed-here (c .before .before .before .before .before .before))
-    (passed (c .before .before .before .before .before .before))
-    (c .all-soiled .ensures ∙ ap (λ (d : Core). map soiled (set (c .before .before .before .before .before .before .before .before .before .before .before .before .before .before .args .t1 .cores) (c .before .before .before .before .before .before .before .before .before .before .before .before .before .before .args .core .0) d)) (c .before .core-with .ensures))
+    let free = c .before .before .before .before .before .before in
+    let a = free .before .before .before .before .before .before .before .before .args in
+    set-begins (c .before .before .before .before .a .given .1) (addressed-here free) (passed free)
+    (c .all-soiled .ensures ∙ ap (λ (d : Core). map soiled (set (a .t1 .cores) (a .core .0) d)) (c .before .core-with .ensures))
 
 deliver-all-requires : tie.Need-deliver-all-requires
 deliver-all-requires c κs = search needs

@@ -63,7 +63,10 @@ is-claimed-requires : tie.Need-is-claimed-requires
 is-claimed-requires c κs = (here (c .before .before .before .before)) .cores-in
 
 -- whether the request is claimed, where the two ways meet
-taken-claimed : (c : tie.Joined3) → c .if3 .claimed ≡ claimed (c .before .before .before .before .before .before .before .args .t1) (indexOf (c .before .before .before .before .before .before .before .args .id))
+taken-claimed :
+    (c : tie.Joined3) →
+    let a = c .before .before .before .before .before .before .before .args in
+    c .if3 .claimed ≡ claimed (a .t1) (indexOf (a .id))
 taken-claimed c =
     let h = here (c .before .before .before) in
     ⊎-elim (λ w. claimed-if h (w .3 ∙ w .2 .ensures)) (λ w. unclaimed h (w .0 .left) (w .1)) (c .if3 .came)
@@ -72,7 +75,10 @@ source-number-requires : tie.Need-source-number-requires
 source-number-requires c κs = search needs
 
 -- the number of the later checks
-number-found : (c : tie.After-source-number) → c .source-number .result ≡ sourceRefusal (c .before .before .before .before .before .before .before .before .args .t1) (indexOf (c .before .before .before .before .before .before .before .before .args .id)) (c .before .before .before .before .before .before .before .before .args .a)
+number-found :
+    (c : tie.After-source-number) →
+    let a = c .before .before .before .before .before .before .before .before .args in
+    c .source-number .result ≡ sourceRefusal (a .t1) (indexOf (a .id)) (a .a)
 number-found c =
     let a = c .before .before .before .before .before .before .before .before .args in
     number-is (a .t1) (a .id) (a .a) (taken-claimed (c .before)) (c .source-number .ensures)
@@ -122,7 +128,8 @@ returns-4 c =
     c .accepted .ensures ∙
     ⊎-elim
     (λ w. ap₂ (λ (x : Controller) (y : ℕ). answer x 0 0 y) (w .3) (w .4) ∙ after-deliveries (a .a) h passes new (w .1 .ensures))
-    (λ w. ap₂ (λ (x : Controller) (y : ℕ). answer x 0 0 y) (w .1) (w .2) ∙ at-rest (a .a) h passes new (sym (c .before .before .delivers .ensures) ∙ w .0 .left))
+    (λ w. ap₂ (λ (x : Controller) (y : ℕ). answer x 0 0 y) (w .1) (w .2) ∙
+    at-rest (a .a) h passes new (sym (c .before .before .delivers .ensures) ∙ w .0 .left))
     (c .before .if5 .came)
 
 pub on-source-spec : {M : Type 1} → statement M
