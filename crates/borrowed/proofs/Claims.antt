@@ -4,6 +4,7 @@ use mathlib.Core.Path.{_≡_, sym, ap, _∙_}
 use mathlib.Core.Bool.{Bool, true, false, not, cond}
 use borrow.Author.Tests.{not-true, not-false, lt-ltb, le-ltb}
 use Rattle.lists.specs.Numbers.{between}
+use Rattle.lists.proofs.Exact.{between-exact}
 use Rattle.model.specs.declared.Core.{Core}
 use Rattle.model.specs.declared.Taken.{Taken}
 use Rattle.model.specs.Records.{maxSources, sourceId, taken}
@@ -39,9 +40,18 @@ module _ (c : Core) where
       not-above h = rw (named, in-range, le-ltb (c .configured) (c .message .priority) h)
 
       -- all other tests passed, so the last one decides
-      pub clean-only : c .configured < c .message .priority → not (c .message .dirty) ≡ claimable c
+      pub clean-decides : c .configured < c .message .priority → not (c .message .dirty) ≡ claimable c
       unfolding claimable
-      clean-only h = rw (named, in-range, lt-ltb (c .configured) (c .message .priority) h)
+      clean-decides h = rw (named, in-range, lt-ltb (c .configured) (c .message .priority) h)
+
+  -- the same from what the tests mean
+  pub clean-only :
+      1 ≤ c .message .source .0 → c .message .source .0 ≤ maxSources →
+      1 ≤ c .message .priority → c .message .priority ≤ topPriority maxSources →
+      c .configured < c .message .priority → not (c .message .dirty) ≡ claimable c
+  clean-only some-id id-in some-priority priority-in =
+      clean-decides ((between-exact 1 maxSources (c .message .source .0)) .1 (some-id, id-in))
+      ((between-exact 1 (topPriority maxSources) (c .message .priority)) .1 (some-priority, priority-in))
 
   -- ---- what the claim gives
 

@@ -10,7 +10,7 @@ ghost use Rattle.lists.specs.Numbers.{between};
 ghost use Rattle.model.specs.Records.{maxCores};
 ghost use Rattle.model.specs.Priorities.{topPriority};
 ghost use Rattle.model.specs.Requests.{boxed as boxedIn};
-ghost use Rattle.checks.specs.Numbers.{sourceNumber, coreNumber};
+ghost use Rattle.checks.specs.Refusals.{sourceRefusalBy, coreRefusalBy};
 use model::CORES;
 use model::Core;
 use model::CoreAction;
@@ -86,8 +86,8 @@ pub fn is_source_priority(n: u16, p: u16) -> bool
 }
 
 // The number for no of an action on a source's record r, 0 for none; claimed says whether its request is.
-pub fn source_number(n: u16, r: Source, claimed: bool, a: SourceAction) -> u8
-    ensures { λ k. ⌜ k ≡ sourceNumber n r claimed a ⌝ }
+pub fn source_refusal(n: u16, r: Source, claimed: bool, a: SourceAction) -> u8
+    ensures { λ k. ⌜ k ≡ sourceRefusalBy n r claimed a ⌝ }
 {
     match a {
         SourceAction::SetSourcePriority(p) => {
@@ -120,8 +120,8 @@ pub fn source_number(n: u16, r: Source, claimed: bool, a: SourceAction) -> u8
 }
 
 // The number for no of an action on a core's record c, 0 for none.
-pub fn core_number(n: u16, c: Core, a: CoreAction) -> u8
-    ensures { λ k. ⌜ k ≡ coreNumber n c a ⌝ }
+pub fn core_refusal(n: u16, c: Core, a: CoreAction) -> u8
+    ensures { λ k. ⌜ k ≡ coreRefusalBy n c a ⌝ }
 {
     match a {
         CoreAction::SetCorePriority(p) => {

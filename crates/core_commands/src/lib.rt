@@ -37,7 +37,7 @@ pub fn on_core(s: Controller, core: CoreId, a: CoreAction) -> Answer
     }
     let k = core.0 as usize;
     let c = s.cores[k];
-    let number = checks::core_number(s.n, c, a);
+    let number = checks::core_refusal(s.n, c, a);
     if number != 0 {
         return records::refused(s, number);
     }

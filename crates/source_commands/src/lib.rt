@@ -40,7 +40,7 @@ pub fn on_source(s: Controller, id: SourceId, a: SourceAction) -> Answer
         let cores = s.cores;
         claimed = checks::is_claimed(r, cores, s.m as usize, id);
     }
-    let number = checks::source_number(s.n, r, claimed, a);
+    let number = checks::source_refusal(s.n, r, claimed, a);
     if number != 0 {
         return records::refused(s, number);
     }

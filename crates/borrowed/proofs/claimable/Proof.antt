@@ -1,6 +1,6 @@
 -- `borrowed::claimable` meets its contract: each test that fails settles the definition's. Assumes nothing.
 use Rattle.lists.proofs.Bools.{failing, passing}
-use Rattle.borrowed.proofs.Claims.{no-id, no-priority, not-above, clean-only}
+use Rattle.borrowed.proofs.Claims.{no-id, no-priority, not-above, clean-decides}
 use borrow.Author.Needs.{needs}
 use Rattle.borrowed.proofs.claimable.Statement.{statement}
 use Rattle.borrowed.proofs.claimable.Tie as tie
@@ -37,7 +37,7 @@ returns-4 : tie.Need-returns-4
 returns-4 c =
     let ranged = c .before .before .before .before in
     let named = ranged .before .before in
-    clean-only (named .before .before .before .args .c) (passing (named .before .names-source .ensures) (named .if1 .left))
+    clean-decides (named .before .before .before .args .c) (passing (named .before .names-source .ensures) (named .if1 .left))
     (passing (ranged .before .is-source-priority .ensures) (ranged .if2 .left)) (c .before .if3 .left)
 
 pub claimable-spec : {M : Type 1} → statement M

@@ -56,7 +56,7 @@ use Rattle.lists.proofs.Bools.{Flag, on, off, flag}
 use Rattle.borrowed.specs.declared.Extent.{Extent}
 use Rattle.borrowed.specs.Keys.{extentOf, readOf}
 use Rattle.borrowed.proofs.Locals.{local, field-of, fills, lands-in}
-use Rattle.borrowed.proofs.Filling.{Filled, Further, further-wf, zeros, zeros-are, none-filled}
+use Rattle.borrowed.proofs.Filling.{Copied, Further, further-wf, zeros, zeros-are, none-copied}
 use Rattle.model.proofs.Source as So
 use Rattle.model.proofs.Source.Laws as So′
 use Rattle.records.proofs.rank.Symbol as rank-def
@@ -109,7 +109,7 @@ module _
 
   module _ (room : Room So.the-row len) (spelled : Is Ex.the-row (extentOf len) (extents (extentOf len))) (q′ : Share) (B : Blocks) where
     -- a turn, by its test
-    turns : (f : Filled (s .now)) → Turns 𝓤 H A W at-mem run κ q s 𝓣 q′ B f
+    turns : (f : Copied (s .now)) → Turns 𝓤 H A W at-mem run κ q s 𝓣 q′ B f
     turns f = go (flag (ltb (f .i) (readOf len)))
       where
         go : Flag (ltb (f .i) (readOf len)) → Turns 𝓤 H A W at-mem run κ q s 𝓣 q′ B f
@@ -117,12 +117,12 @@ module _
         go (off test) = leaves 𝓤 H A W at-mem run κ q s spelled 𝓣 (known .searches) q′ B f test
 
     looped :
-        (f : Filled (s .now)) →
+        (f : Copied (s .now)) →
         Sq W (At κ q s 𝓤 q′ B f) (runs (𝓣 .C) (𝓣 .Λ) (En 𝓤 H B) (loop mir.turn-1) (anyQ (Left 𝓤 H A W at-mem run κ q s 𝓣 q′ B)))
     looped f = loops ! 𝓣 (Further (s .now)) (further-wf (s .now)) (At κ q s 𝓤 q′ B) turns f
 
     at-loop :
-        (f : Filled (s .now)) →
+        (f : Copied (s .now)) →
         Sq W (At κ q s 𝓤 q′ B f) (runs (𝓣 .C) (𝓣 .Λ) (En 𝓤 H B) mir.t-5 (atRet (En 𝓤 H B) (Post 𝓤 H A W at-mem run κ q s)))
     at-loop f = first ! $ blocks ! $ looped f
 
@@ -192,7 +192,7 @@ module _
         l₁₃ = l₁₃;
         l₁₄ = l₁₄;
       }
-      (none-filled (s .now) _ (omega arith)))))))))))))))))))))))
+      (none-copied (s .now) _ (omega arith)))))))))))))))))))))))
 
 module _
     {M : Type 1} (𝓤 : URA M) (H : Heap 𝓤) (A : Atoms 𝓤) (W : Given 𝓤 H A) (at-mem : Memory → SProp 𝓤) (run : Routine → Fun 𝓤)

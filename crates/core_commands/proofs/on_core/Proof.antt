@@ -57,17 +57,17 @@ mul-c c = search needs
 element-copy-out-c : tie.Need-element-copy-out-c
 element-copy-out-c c = (here (c .before)) .in-array
 
-core-number-requires : tie.Need-core-number-requires
-core-number-requires c κs = search needs
+core-refusal-requires : tie.Need-core-refusal-requires
+core-refusal-requires c κs = search needs
 
 -- the number of the later checks
 number-found :
-    (c : tie.After-core-number) →
+    (c : tie.After-core-refusal) →
     let a = c .before .before .before .before .before .before .before .args in
-    c .core-number .result ≡ coreRefusal (a .t1) (a .core .0) (a .a)
+    c .core-refusal .result ≡ coreRefusal (a .t1) (a .core .0) (a .a)
 number-found c =
     let a = c .before .before .before .before .before .before .before .args in
-    c .core-number .ensures ∙ number-is (a .t1) (a .core .0) (a .a)
+    c .core-refusal .ensures ∙ number-is (a .t1) (a .core .0) (a .a)
 
 refused-requires-3 : tie.Need-refused-requires-3
 refused-requires-3 c κs = search needs
@@ -78,7 +78,7 @@ returns-3 c =
     let a = found .before .before .before .before .before .before .before .args in
     let h : AddressedCore (a .t1) (a .core) = here (found .before .before .before) in
     c .refused3 .ensures ∙
-    at-later (a .t1) (OnCore (a .core) (a .a)) (h .sound) (h .named) (found .core-number .result) (number-found found)
+    at-later (a .t1) (OnCore (a .core) (a .a)) (h .sound) (h .named) (found .core-refusal .result) (number-found found)
     (c .before .if3 .taken)
 
 enum-known-a : tie.Need-enum-known-a
@@ -164,7 +164,7 @@ on-core-spec =
     cast-k
     mul-c
     element-copy-out-c
-    core-number-requires
+    core-refusal-requires
     refused-requires-3
     returns-3
     enum-known-a

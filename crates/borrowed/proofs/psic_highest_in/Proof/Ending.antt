@@ -43,7 +43,7 @@ use Rattle.model.specs.Records.{maxSources}
 use Rattle.borrowed.specs.declared.Extent.{Extent}
 use Rattle.borrowed.specs.Keys.{extentOf, readOf, FoundByKeys}
 use Rattle.borrowed.proofs.Locals.{local, field-of, fills, lands-in}
-use Rattle.borrowed.proofs.Filling.{Filled, read-inside, all-filled}
+use Rattle.borrowed.proofs.Filling.{Copied, read-inside, all-copied}
 use Rattle.model.proofs.Source as So
 use Rattle.model.proofs.Found as Fo
 use Rattle.model.proofs.Found.Laws as Fo′
@@ -59,7 +59,7 @@ module _
     (κ : Lft) (q : Share) (s : RefT (List Source))
     (spelled : Is Ex.the-row (extentOf (length (s .now))) (extents (extentOf (length (s .now)))))
     (𝓣 : Tables 𝓤 H) (known : Triple 𝓤 (𝓣 .C #borrowed·search) (Search 𝓤 H A at-mem run))
-    (q′ : Share) (B : Blocks) (f : Filled (s .now)) (test : ltb (f .i) (readOf (length (s .now))) ≡ false) where
+    (q′ : Share) (B : Blocks) (f : Copied (s .now)) (test : ltb (f .i) (readOf (length (s .now))) ≡ false) where
   abbrev len : ℕ
   len = length (s .now)
 
@@ -122,4 +122,4 @@ module _
       move ! (18 ∷ 19 ∷ []) $ free1 ! $ move ! (16 ∷ 17 ∷ []) $ free1 ! $ move ! (14 ∷ 15 ∷ []) $ free1 ! $
       move ! (12 ∷ 13 ∷ []) $ free1 ! $ move ! (10 ∷ 11 ∷ []) $ free1 ! $ move ! (8 ∷ 9 ∷ []) $ free1 ! $
       move ! (6 ∷ 7 ∷ []) $ free1 ! $ move ! (4 ∷ 5 ∷ []) $ free1 ! $ move ! (2 ∷ 3 ∷ []) $ free1 ! $ free0 ! $
-      by ! (exits 𝓤 H A W at-mem run κ q s r u (e (s .now) refl (all-filled (s .now) f (ltb-false (f .i) (readOf len) test)))))))))))
+      by ! (exits 𝓤 H A W at-mem run κ q s r u (e (s .now) refl (all-copied (s .now) f (ltb-false (f .i) (readOf len) test)))))))))))

@@ -35,7 +35,7 @@ use Rattle.model.specs.Records.{maxSources}
 use Rattle.borrowed.specs.Lent.{foundIn}
 use Rattle.borrowed.specs.declared.Extent.{Extent}
 use Rattle.borrowed.specs.Keys.{extentOf}
-use Rattle.borrowed.proofs.Filling.{Filled, Further}
+use Rattle.borrowed.proofs.Filling.{Copied, Further}
 use Rattle.model.proofs.Source as So
 use Rattle.model.proofs.Source.Laws as So′
 use Rattle.model.proofs.Found as Fo
@@ -106,7 +106,7 @@ module _ (κ : Lft) (q : Share) (s : RefT (List Source)) where
   -- The keys' elements (0), the list's (1), and each local with what frees it, the last first: _14 (2), _13 (4), _12 (6), _11 (8),
   -- _10 (10), _9 (12), _8 (14), _7 (16), _6 (18), i (20), what frees the keys (22), e (23), len (25), list (27), room for _0 (29);
   -- the open borrow (31), and what the list owns (32)
-  abbrev pub At : {M : Type 1} (𝓤 : URA M) → Share → Blocks → Filled (s .now) → List (Item 𝓤)
+  abbrev pub At : {M : Type 1} (𝓤 : URA M) → Share → Blocks → Copied (s .now) → List (Item 𝓤)
   At 𝓤 q′ B f =
       ‵ (row u32 fullShare (f .keys) (B .l₄) 0) ∷ ‵ (row So.the-row q′ (s .now) (s .ptr .0) (s .ptr .1)) ∷
       ‵ (froom lent (B .l₁₄) 0) ∷ ‵ (fdies lent (B .l₁₄)) ∷
@@ -153,7 +153,7 @@ module _
     Left = afterBlock 𝓤 H (afterSeq 𝓤 H (Wp 𝓤 H (𝓣 .C) (𝓣 .Λ) (En 𝓤 H B) mir.t-6 Returning) Returning)
 
     -- a turn: it ends with fewer records left, or the loop is left
-    abbrev pub Turns : Filled (s .now) → Type 1
+    abbrev pub Turns : Copied (s .now) → Type 1
     Turns f =
         Sq W (At κ q s 𝓤 q′ B f)
         (runs (𝓣 .C) (𝓣 .Λ) (En 𝓤 H B) mir.turn-1 (anyQ (afterTurn 𝓤 H (Below 𝓤 H A (Further (s .now)) (At κ q s 𝓤 q′ B) f) Left)))

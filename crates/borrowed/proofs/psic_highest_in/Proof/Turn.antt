@@ -39,7 +39,7 @@ use Rattle.model.specs.Records.{noSource}
 use Rattle.model.specs.Arbitration.{rank as rankOf}
 use Rattle.borrowed.specs.Keys.{readOf}
 use Rattle.borrowed.proofs.Locals.{local, field-of, fills, lands-in}
-use Rattle.borrowed.proofs.Filling.{Filled, Further, read-inside, one-more, nearer}
+use Rattle.borrowed.proofs.Filling.{Copied, Further, read-inside, one-more, nearer}
 use Rattle.model.proofs.Source as So
 use Rattle.model.proofs.Source.Laws as So′
 use Rattle.records.proofs.rank.Symbol.{name as #records·rank}
@@ -54,7 +54,7 @@ module _
     {M : Type 1} (𝓤 : URA M) (H : Heap 𝓤) (A : Atoms 𝓤) (W : Given 𝓤 H A) (at-mem : Memory → SProp 𝓤) (run : Routine → Fun 𝓤)
     (κ : Lft) (q : Share) (s : RefT (List Source)) (room : Room So.the-row (length (s .now)))
     (𝓣 : Tables 𝓤 H) (known : Triple 𝓤 (𝓣 .C #records·rank) (Rank 𝓤 H A at-mem run))
-    (q′ : Share) (B : Blocks) (f : Filled (s .now)) (test : ltb (f .i) (readOf (length (s .now))) ≡ true) where
+    (q′ : Share) (B : Blocks) (f : Copied (s .now)) (test : ltb (f .i) (readOf (length (s .now))) ≡ true) where
   abbrev l : List Source
   l = s .now
 

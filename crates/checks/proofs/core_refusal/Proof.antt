@@ -1,8 +1,8 @@
--- `checks::core_number` meets its contract, action by action. Assumes nothing.
+-- `checks::core_refusal` meets its contract, action by action. Assumes nothing.
 use Rattle.checks.proofs.Tests.{in-top, above-top}
 use borrow.Author.Needs.{needs}
-use Rattle.checks.proofs.core_number.Statement.{statement}
-use Rattle.checks.proofs.core_number.Tie as tie
+use Rattle.checks.proofs.core_refusal.Statement.{statement}
+use Rattle.checks.proofs.core_refusal.Tie as tie
 
 enum-known-a : tie.Need-enum-known-a
 enum-known-a c = search needs
@@ -28,8 +28,8 @@ returns-3 c = rw (c .before .before .before .a .given .1) (above-top (c .before 
 returns-4 : tie.Need-returns-4
 returns-4 c = search needs
 
-pub core-number-spec : {M : Type 1} → statement M
-core-number-spec =
+pub core-refusal-spec : {M : Type 1} → statement M
+core-refusal-spec =
     tie.close
     (tie.spec
     enum-known-a

@@ -1,7 +1,7 @@
--- `checks::source_number` meets its contract, action by action. Assumes nothing.
+-- `checks::source_refusal` meets its contract, action by action. Assumes nothing.
 use borrow.Author.Needs.{needs}
-use Rattle.checks.proofs.source_number.Statement.{statement}
-use Rattle.checks.proofs.source_number.Tie as tie
+use Rattle.checks.proofs.source_refusal.Statement.{statement}
+use Rattle.checks.proofs.source_refusal.Tie as tie
 
 enum-known-a : tie.Need-enum-known-a
 enum-known-a c = search needs
@@ -54,8 +54,8 @@ returns-9 c = search needs
 returns-10 : tie.Need-returns-10
 returns-10 c = search needs
 
-pub source-number-spec : {M : Type 1} → statement M
-source-number-spec =
+pub source-refusal-spec : {M : Type 1} → statement M
+source-refusal-spec =
     tie.close
     (tie.spec
     enum-known-a
