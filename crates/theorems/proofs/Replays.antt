@@ -12,7 +12,7 @@ use Rattle.model.specs.Ledger.{opening, ledger, entries}
 use Rattle.model.specs.Statements.{InRange, PriorityStrict}
 use Rattle.lists.proofs.Exact.{refuted-exact}
 use Rattle.well_formed.proofs.Clauses.{sizes-exact}
-use Rattle.encoding.proofs.Answers.{answers-count}
+use Rattle.layout.proofs.Answers.{answers-count}
 use Rattle.theorems.proofs.DemandThree.{reset-strict}
 use Rattle.recording.specs.Reading.{reading}
 use Rattle.recording.specs.Replay.{Replay, replayFrom, replayed}

@@ -1,10 +1,10 @@
--- `encoding::word_at` meets its contract: a byte is below 256, so nothing wraps. Assumes nothing.
+-- `decoding::word_at` meets its contract: a byte is below 256, so nothing wraps. Assumes nothing.
 use Prim.Native.Nat.{_+_, _<_}
 use lib.ListN.{getD}
 use native.Mathlib.Omega.{arith}
 use borrow.Author.Needs.{needs}
-use Rattle.encoding.proofs.word_at.Statement.{statement}
-use Rattle.encoding.proofs.word_at.Tie as tie
+use Rattle.decoding.proofs.word_at.Statement.{statement}
+use Rattle.decoding.proofs.word_at.Tie as tie
 
 shared-slice-read-low : tie.Need-shared-slice-read-low
 shared-slice-read-low c = search needs

@@ -1,8 +1,8 @@
--- `encoding::core_from` meets its contract, by those of the functions that it calls. Assumes nothing.
-use Rattle.encoding.proofs.Reading.{core-read}
+-- `decoding::core_from` meets its contract, by those of the functions that it calls. Assumes nothing.
+use Rattle.decoding.proofs.Reading.{core-read}
 use borrow.Author.Needs.{needs}
-use Rattle.encoding.proofs.core_from.Statement.{statement}
-use Rattle.encoding.proofs.core_from.Tie as tie
+use Rattle.decoding.proofs.core_from.Statement.{statement}
+use Rattle.decoding.proofs.core_from.Tie as tie
 
 add-word-at : tie.Need-add-word-at
 add-word-at c = search needs

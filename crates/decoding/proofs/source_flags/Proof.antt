@@ -1,8 +1,8 @@
--- `encoding::source_flags` meets its contract: each test decides one flag. Assumes nothing.
-use Rattle.encoding.proofs.Flags.{first-no-flag, second-no-flag, third-flag}
+-- `decoding::source_flags` meets its contract: each test decides one flag. Assumes nothing.
+use Rattle.decoding.proofs.Flags.{first-no-flag, second-no-flag, third-flag}
 use borrow.Author.Needs.{needs}
-use Rattle.encoding.proofs.source_flags.Statement.{statement}
-use Rattle.encoding.proofs.source_flags.Tie as tie
+use Rattle.decoding.proofs.source_flags.Statement.{statement}
+use Rattle.decoding.proofs.source_flags.Tie as tie
 
 add-if1 : tie.Need-add-if1
 add-if1 c = search needs
@@ -32,7 +32,8 @@ shared-slice-read-result c = search needs
 
 returns-3 : tie.Need-returns-3
 returns-3 c =
-    let a = c .before .before .before .before .before .args in third-flag (a .b .now) (a .i) (c .before .before .before .if1 .left) (c .before .if2 .left)
+    let a = c .before .before .before .before .before .args in
+    third-flag (a .b .now) (a .i) (c .before .before .before .if1 .left) (c .before .if2 .left)
 
 pub source-flags-spec : {M : Type 1} → statement M
 source-flags-spec =

@@ -1,8 +1,8 @@
--- `encoding::core_flags` meets its contract: each test decides one flag. Assumes nothing.
-use Rattle.encoding.proofs.Flags.{first-no-core-flag, second-core-flag}
+-- `decoding::core_flags` meets its contract: each test decides one flag. Assumes nothing.
+use Rattle.decoding.proofs.Flags.{first-no-core-flag, second-core-flag}
 use borrow.Author.Needs.{needs}
-use Rattle.encoding.proofs.core_flags.Statement.{statement}
-use Rattle.encoding.proofs.core_flags.Tie as tie
+use Rattle.decoding.proofs.core_flags.Statement.{statement}
+use Rattle.decoding.proofs.core_flags.Tie as tie
 
 add-if1 : tie.Need-add-if1
 add-if1 c = search needs

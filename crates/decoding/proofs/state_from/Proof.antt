@@ -1,21 +1,21 @@
--- `encoding::state_from` meets its contract: both loops keep `Read`, that the records passed are those that the bytes encode.
+-- `decoding::state_from` meets its contract: both loops keep `ReadTo`, that the records passed are those that the bytes encode.
 -- Assumes nothing.
 use Prim.Native.Nat.{_-_}
 use native.Mathlib.Omega.{arith}
 use borrow.Author.Needs.{needs}
 use Rattle.model.specs.Records.{maxSources, maxCores}
-use Rattle.encoding.proofs.Reading.{Read, read-none, source-more, core-more, all-read}
-use Rattle.encoding.proofs.state_from.Statement.{statement}
-use Rattle.encoding.proofs.state_from.Tie as tie
+use Rattle.decoding.proofs.Reading.{ReadTo, read-none, source-more, core-more, all-read}
+use Rattle.decoding.proofs.state_from.Statement.{statement}
+use Rattle.decoding.proofs.state_from.Tie as tie
 
 abbrev Inv-loop : tie.InvT-loop
-Inv-loop b s₀ i₀ s i = Read b s i 0
+Inv-loop b s₀ i₀ s i = ReadTo b s i 0
 
 abbrev μ-loop : tie.MeasureT-loop
 μ-loop b s₀ i₀ s i = maxSources - i
 
 abbrev Inv-loop2 : tie.InvT-loop2
-Inv-loop2 b s₀ i k₀ s k = Read b s i k
+Inv-loop2 b s₀ i k₀ s k = ReadTo b s i k
 
 abbrev μ-loop2 : tie.MeasureT-loop2
 μ-loop2 b s₀ i k₀ s k = maxCores - k

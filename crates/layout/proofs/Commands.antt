@@ -8,13 +8,13 @@ use Rattle.model.specs.declared.Command.the-variants.{OnSource, OnCore}
 use Rattle.model.specs.declared.SourceAction.the-variants.{SetSourcePriority, Mask, Unmask, Trigger, Redeliver, Complete}
 use Rattle.model.specs.declared.CoreAction.the-variants.{SetCorePriority, Claim}
 use Rattle.model.specs.declared.Decoded.the-variants.{Known}
 use Rattle.layout.specs.Commands.{commandOf, numberOf, targetOf, levelOf}
 use Rattle.lists.specs.Rows.{joined}
 use Rattle.layout.specs.Bytes.{commandSize, commandBytes, commandsIn}
 use Rattle.layout.specs.Statements.{CommandFits, CommandsReadBack, PackedRead}
-use Rattle.encoding.proofs.Records.{word-back}
+use Rattle.layout.proofs.Records.{word-back}
 use Rattle.lists.proofs.Rows.{length-joined}
-use Rattle.encoding.proofs.Octets.{Octets, none, next, are-bytes, octets-append, octets-word}
+use Rattle.layout.proofs.Octets.{Octets, none, next, are-bytes, octets-append, octets-word}
 
 number-small : (c : Command) → numberOf c < 8
 number-small (OnSource id (SetSourcePriority p)) = omega arith

@@ -11,10 +11,9 @@ use Rattle.model.specs.declared.Source.{Source}
 use Rattle.model.specs.declared.Core.{Core}
 use Rattle.model.specs.declared.Controller.{Controller}
 use Rattle.model.specs.Records.{maxSources, maxCores, noSource, noCore, sourceAt, coreAt}
-use Rattle.layout.specs.Bytes.{flagByte, wordAt, sourceSize, coreSize, sourcesFrom, coresFrom, sourceBytes, coreBytes, stateBytes, stateFrom}
+use Rattle.layout.specs.Bytes.{flagByte, wordAt, sourceSize, coreSize, sourcesFrom, coresFrom, sourceBytes, coreBytes, stateBytes, sourceOf, coreOf, stateFrom}
 use Rattle.lists.specs.Rows.{joined}
-use Rattle.layout.specs.Statements.{Fits, SourceFits, CoreFits, IsWord, AreBytes, BytesFit}
-use Rattle.encoding.proofs.Reading.{sourceOf, coreOf}
+use Rattle.layout.specs.Statements.{Fits, SourceInWords, CoreInWords, IsWord, AreBytes, BytesFit}
 use Rattle.lists.proofs.Rows.{length-tabulated, getD-tabulated}
 
 -- each element is a byte
@@ -44,12 +43,12 @@ octets-flag : (x : Bool) {l : List ℕ} → Octets l → Octets (flagByte x ∷ 
 octets-flag true o = next {x = 1} (omega arith) o
 octets-flag false o = next {x = 0} (omega arith) o
 
-octets-source : (r : Source) → SourceFits r → Octets (sourceBytes r)
+octets-source : (r : Source) → SourceInWords r → Octets (sourceBytes r)
 octets-source r f =
     octets-word (f .configured)
     (octets-flag (r .masked) (octets-flag (r .pending) (octets-flag (r .delivered) (octets-word (f .priority) none))))
 
-octets-core : (c : Core) → CoreFits c → Octets (coreBytes c)
+octets-core : (c : Core) → CoreInWords c → Octets (coreBytes c)
 octets-core c f =
     octets-word (f .configured)
     (octets-flag (c .message .filled) (octets-flag (c .message .dirty) (octets-word (f .source) (octets-word (f .priority) none))))
@@ -75,12 +74,12 @@ module _ (b : List ℕ) (are : AreBytes b) where
   is-word : (i : ℕ) → IsWord (wordAt b i)
   is-word i = omega (arith, byte i, byte (i + 1))
 
-  source-fits : (i : ℕ) → SourceFits (sourceOf b i)
+  source-fits : (i : ℕ) → SourceInWords (sourceOf b i)
   source-fits i =
       let at : ℕ = sourcesFrom + sourceSize * i in
       record { configured = is-word at; priority = is-word (at + 5) }
 
-  core-fits : (k : ℕ) → CoreFits (coreOf b k)
+  core-fits : (k : ℕ) → CoreInWords (coreOf b k)
   core-fits k =
       let at : ℕ = coresFrom + coreSize * k in
       record { configured = is-word at; source = is-word (at + 4); priority = is-word (at + 6) }

@@ -1,10 +1,10 @@
 -- The test of a state's bytes: the flags of one record, and those of all records one after another. Assumes nothing.
 --   first-no-flag, second-no-flag, third-flag        the test of a source, from those of its flags
 --   first-no-core-flag, second-core-flag             the test of a core
---   Passed, passed-none, source-passed, core-passed  how far the bytes have passed
---   all-passed                                       past the last source and the last core they encode a state
+--   Flagged, flagged-none, flagged-source, flagged-core  how far the bytes have passed
+--   all-flagged                                       past the last source and the last core they encode a state
 --   wrong-size, no-source-flags, no-core-flags       what the test answers as soon as one part fails
-use Prim.Native.Nat.{ℕ, _+_, _*_, _<_, _≤_}
+use Prim.Native.Nat.{ℕ, _+_, _<_, _≤_}
 use mathlib.Core.Path.{_≡_, refl}
 use mathlib.Core.List.{List}
 use mathlib.Core.Bool.{Bool, true, false, and-false}
@@ -15,7 +15,7 @@ use lib.ListN.{length, getD}
 use lib.Dec.{leb}
 use Rattle.model.specs.Records.{maxSources, maxCores}
 use Rattle.lists.specs.Walks.{every}
-use Rattle.layout.specs.Bytes.{sourcesFrom, coresFrom, sourceSize, coreSize, stateSize, sourceFlags, coreFlags, isState}
+use Rattle.layout.specs.Bytes.{stateSize, sourceFlags, coreFlags, sourceFlagsOf, coreFlagsOf, isState}
 use Rattle.lists.proofs.Bools.{and-in, clash, refuted}
 use Rattle.lists.proofs.Walks.{every-out}
 
@@ -61,14 +61,8 @@ not-every n f i h e = refuted (every n f) (λ p. clash (every-out n f p i h) e)
 
 -- ---- all records
 
-abbrev pub sourceFlagsOf : List ℕ → ℕ → Bool
-sourceFlagsOf b i = sourceFlags b (sourcesFrom + sourceSize * i)
-
-abbrev pub coreFlagsOf : List ℕ → ℕ → Bool
-coreFlagsOf b k = coreFlags b (coresFrom + coreSize * k)
-
 -- b has a state's length, and flags in its first i sources and its first k cores
-pub record Passed (b : List ℕ) (i k : ℕ) : Type 0 where
+pub record Flagged (b : List ℕ) (i k : ℕ) : Type 0 where
   pub size : length b ≡ stateSize
   pub sources : Passing maxSources (sourceFlagsOf b) i
   pub cores : Passing maxCores (coreFlagsOf b) k
@@ -86,18 +80,18 @@ module _ (b : List ℕ) where
   unfolding isState
   no-core-flags k h e = simp (not-every maxCores (coreFlagsOf b) k h e, and-false)
 
-  pub passed-none : length b ≡ stateSize → Passed b 0 0
-  passed-none e =
+  pub flagged-none : length b ≡ stateSize → Flagged b 0 0
+  flagged-none e =
       record { size = e; sources = passing-none maxSources (sourceFlagsOf b); cores = passing-none maxCores (coreFlagsOf b) }
 
-  module _ (i k : ℕ) (p : Passed b i k) where
-    pub source-passed : i < maxSources → sourceFlagsOf b i ≡ true → Passed b (i + 1) k
-    source-passed h e = record { size = p .size; sources = passing-more (p .sources) h e; cores = p .cores }
+  module _ (i k : ℕ) (p : Flagged b i k) where
+    pub flagged-source : i < maxSources → sourceFlagsOf b i ≡ true → Flagged b (i + 1) k
+    flagged-source h e = record { size = p .size; sources = passing-more (p .sources) h e; cores = p .cores }
 
-    pub core-passed : k < maxCores → coreFlagsOf b k ≡ true → Passed b i (k + 1)
-    core-passed h e = record { size = p .size; sources = p .sources; cores = passing-more (p .cores) h e }
+    pub flagged-core : k < maxCores → coreFlagsOf b k ≡ true → Flagged b i (k + 1)
+    flagged-core h e = record { size = p .size; sources = p .sources; cores = passing-more (p .cores) h e }
 
-    pub all-passed : maxSources ≤ i → maxCores ≤ k → true ≡ isState b
+    pub all-flagged : maxSources ≤ i → maxCores ≤ k → true ≡ isState b
     unfolding isState
-    all-passed h g =
+    all-flagged h g =
         rw (eq-eqb (length b) stateSize (p .size), passing-all (p .sources) h, passing-all (p .cores) g)

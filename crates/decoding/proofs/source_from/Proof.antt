@@ -1,8 +1,8 @@
--- `encoding::source_from` meets its contract, by those of the functions that it calls. Assumes nothing.
-use Rattle.encoding.proofs.Reading.{source-read}
+-- `decoding::source_from` meets its contract, by those of the functions that it calls. Assumes nothing.
+use Rattle.decoding.proofs.Reading.{source-read}
 use borrow.Author.Needs.{needs}
-use Rattle.encoding.proofs.source_from.Statement.{statement}
-use Rattle.encoding.proofs.source_from.Tie as tie
+use Rattle.decoding.proofs.source_from.Statement.{statement}
+use Rattle.decoding.proofs.source_from.Tie as tie
 
 word-at-requires : tie.Need-word-at-requires
 word-at-requires c κs = search needs

@@ -11,15 +11,13 @@ use lib.Dec.{eqb}
 use Rattle.model.specs.declared.Controller.{Controller}
 use Rattle.model.specs.Records.{maxSources, maxCores, noSource, noCore, sourceAt, coreAt}
 use Rattle.lists.specs.Walks.{every}
-use Rattle.layout.specs.Bytes.{word, wordAt, sourceSize, coreSize, stateSize, sourcesFrom, coresFrom, sourceBytes, coreBytes, stateBytes, stateFrom, isState}
+use Rattle.layout.specs.Bytes.{word, wordAt, sourceSize, coreSize, stateSize, sourcesFrom, coresFrom, sourceBytes, coreBytes, stateBytes, sourceOf, coreOf, stateFrom, sourceFlagsOf, coreFlagsOf, isState}
 use Rattle.lists.specs.Rows.{joined, tabulated}
 use Rattle.lists.proofs.Bools.{and-l, and-r}
 use Rattle.lists.proofs.Walks.{every-in, every-out}
 use Rattle.layout.specs.Statements.{Sized, StateReadBack, StateEncoded, BytesWrittenBack}
-use Rattle.encoding.proofs.Flags.{sourceFlagsOf, coreFlagsOf}
-use Rattle.encoding.proofs.Reading.{sourceOf, coreOf}
-use Rattle.encoding.proofs.Octets.{state-bytes, byte}
-use Rattle.encoding.proofs.Records.{word-back, source-back, source-flagged, core-back, core-flagged, word-part, source-part, core-part}
+use Rattle.layout.proofs.Octets.{state-bytes, byte}
+use Rattle.layout.proofs.Records.{word-back, source-back, source-flagged, core-back, core-flagged, word-part, source-part, core-part}
 use Rattle.lists.proofs.Rows.{length-joined, record-at, tabulated-all, joined-tabulated}
 
 -- ---- a state there and back

@@ -1,21 +1,21 @@
--- `encoding::is_state` meets its contract: both loops keep `Passed`, that the flags of the records passed are flags. Assumes nothing.
+-- `decoding::is_state` meets its contract: both loops keep `Flagged`, that the flags of the records passed are flags. Assumes nothing.
 use Prim.Native.Nat.{_-_}
 use mathlib.Core.Path.{sym, _∙_}
 use native.Mathlib.Omega.{arith}
 use borrow.Author.Tests.{not-true, not-false}
 use Rattle.model.specs.Records.{maxSources, maxCores}
-use Rattle.encoding.proofs.Flags.{Passed, wrong-size, no-source-flags, no-core-flags, passed-none, source-passed, core-passed, all-passed}
-use Rattle.encoding.proofs.is_state.Statement.{statement}
-use Rattle.encoding.proofs.is_state.Tie as tie
+use Rattle.decoding.proofs.Flags.{Flagged, wrong-size, no-source-flags, no-core-flags, flagged-none, flagged-source, flagged-core, all-flagged}
+use Rattle.decoding.proofs.is_state.Statement.{statement}
+use Rattle.decoding.proofs.is_state.Tie as tie
 
 abbrev Inv-loop : tie.InvT-loop
-Inv-loop b i₀ i = Passed b i 0
+Inv-loop b i₀ i = Flagged b i 0
 
 abbrev μ-loop : tie.MeasureT-loop
 μ-loop b i₀ i = maxSources - i
 
 abbrev Inv-loop2 : tie.InvT-loop2
-Inv-loop2 b i k₀ k = Passed b i k
+Inv-loop2 b i k₀ k = Flagged b i k
 
 abbrev μ-loop2 : tie.MeasureT-loop2
 μ-loop2 b i k₀ k = maxCores - k
@@ -24,7 +24,7 @@ returns : tie.Need-returns Inv-loop μ-loop Inv-loop2 μ-loop2
 returns c = wrong-size (c .before .before .args .b .now) (c .if1 .taken)
 
 loop-holds : tie.Need-loop-holds Inv-loop μ-loop Inv-loop2 μ-loop2
-loop-holds c = passed-none (c .before .before .args .b .now) (c .if1 .left)
+loop-holds c = flagged-none (c .before .before .args .b .now) (c .if1 .left)
 
 mul-source-flags : tie.Need-mul-source-flags Inv-loop μ-loop Inv-loop2 μ-loop2
 mul-source-flags c = omega arith
@@ -52,7 +52,7 @@ loop-again : tie.Need-loop-again Inv-loop μ-loop Inv-loop2 μ-loop2
 loop-again c =
     let l = c .before .before .before .loop in
     let tested = c .before .source-flags in
-    source-passed (c .before .before .before .before .before .before .args .b .now) (l .passed) 0 (l .inv) (omega arith)
+    flagged-source (c .before .before .before .before .before .before .args .b .now) (l .passed) 0 (l .inv) (omega arith)
     (sym (tested .ensures) ∙ not-false (tested .result) (c .if2 .left))
 
 loop2-holds : tie.Need-loop2-holds Inv-loop μ-loop Inv-loop2 μ-loop2
@@ -83,14 +83,14 @@ loop2-again : tie.Need-loop2-again Inv-loop μ-loop Inv-loop2 μ-loop2
 loop2-again c =
     let l = c .before .before .before .loop2 in
     let tested = c .before .core-flags in
-    core-passed (c .before .before .before .before .before .before .before .before .args .b .now)
+    flagged-core (c .before .before .before .before .before .before .before .before .args .b .now)
     (c .before .before .before .before .before .loop .passed) (l .cores-passed) (l .inv) (omega arith)
     (sym (tested .ensures) ∙ not-false (tested .result) (c .if3 .left))
 
 returns-4 : tie.Need-returns-4 Inv-loop μ-loop Inv-loop2 μ-loop2
 returns-4 c =
     let l = c .before .loop2 in
-    all-passed (c .before .before .before .before .before .before .args .b .now) (c .before .before .before .loop .passed) (l .cores-passed)
+    all-flagged (c .before .before .before .before .before .before .args .b .now) (c .before .before .before .loop .passed) (l .cores-passed)
     (l .inv) (c .before .before .loop-test .left) (c .loop2-test .left)
 
 pub is-state-spec : {M : Type 1} → statement M

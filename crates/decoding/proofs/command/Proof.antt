@@ -1,9 +1,9 @@
--- `encoding::command` meets its contract: an arm of a number knows the number, and the last arm that it is none of 0 to 7, for which
+-- `decoding::command` meets its contract: an arm of a number knows the number, and the last arm that it is none of 0 to 7, for which
 -- `commandOf` has its last case. Assumes nothing.
 use borrow.Author.Tests.{ne-eqb}
 use Rattle.layout.specs.Commands.{commandOf}
-use Rattle.encoding.proofs.command.Statement.{statement}
-use Rattle.encoding.proofs.command.Tie as tie
+use Rattle.decoding.proofs.command.Statement.{statement}
+use Rattle.decoding.proofs.command.Tie as tie
 
 returns : tie.Need-returns
 unfolding commandOf

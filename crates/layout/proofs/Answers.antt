@@ -14,8 +14,8 @@ use Rattle.model.specs.declared.Answer.{Answer}
 use Rattle.model.specs.Behaviours.{answersBy}
 use Rattle.model.specs.Commands.{execute}
 use Rattle.model.specs.Ledger.{answersTo}
 use Rattle.layout.specs.Bytes.{answerSize, answerBytes}
-use Rattle.encoding.proofs.Writing.{sets-append}
+use Rattle.lists.proofs.Writes.{sets-append}
 
 abbrev pub answersFrom : Controller → List Command → List ℕ
 answersFrom s cs = joined answerBytes (answersTo s cs)
