@@ -73,17 +73,29 @@ module _ {A : Type 0} (d : A) where
 
 -- ---- a row of numbers
 
-abbrev pub Filling : {A : Type 0} → (A → ℕ) → A → List A → ℕ → ℕ → List ℕ → Type 0
-Filling f d l size i ks = Filled (λ (j v : ℕ). v ≡ f (getD l j d)) Anything 0 size i ks
+pub record Filling {A : Type 0} (f : A → ℕ) (d : A) (l : List A) (size i : ℕ) (ks : List ℕ) : Type 0 where
+  pub whole : length ks ≡ size
+  pub filled : FilledTo f d l i ks
 
 module _ {A : Type 0} (f : A → ℕ) (d : A) (l : List A) where
+  abbrev Number : ℕ → ℕ → Type 0
+  Number j v = v ≡ f (getD l j d)
+
+  abbrev Row : ℕ → ℕ → List ℕ → Type 0
+  Row size i ks = Filled Number Anything 0 size i ks
+
+  filling : {size i : ℕ} {ks : List ℕ} → Row size i ks → Filling f d l size i ks
+  filling r = record { whole = r .whole; filled = r .filled }
+
   pub filling-none : (size : ℕ) → Filling f d l size 0 (replicate size 0)
-  filling-none size = filled-none (λ (j v : ℕ). v ≡ f (getD l j d)) Anything 0 (length-replicate size 0) (λ j. tt)
+  filling-none size = filling (filled-none Number Anything 0 (length-replicate size 0) (λ j. tt))
 
   pub filling-more :
       {size i : ℕ} {ks : List ℕ} → Filling f d l size i ks → i < size → (v : ℕ) → v ≡ f (getD l i d) →
       Filling f d l size (i + 1) (set ks i v)
-  filling-more r h v e = filled-more (λ (j v : ℕ). v ≡ f (getD l j d)) Anything 0 r h v e
+  filling-more {size} {i} {ks} r h v e =
+      let row : Row size i ks = record { whole = r .whole; filled = r .filled; rest = λ j p. tt } in
+      filling (filled-more Number Anything 0 row h v e)
 
   pub filled-written :
       (n : ℕ) (ks : List ℕ) → FilledTo f d l n ks → (i : ℕ) (x : A) (v : ℕ) → i < length l → i < length ks → v ≡ f x →
