@@ -1,10 +1,10 @@
 -- Whether a core record can be claimed, and what the claim gives, from the tests in the code's order. Assumes nothing.
-use Prim.Native.Nat.{ℕ, _<_, _≤_}
+use Prim.Native.Nat.{_<_, _≤_}
 use mathlib.Core.Path.{_≡_, sym, ap, _∙_}
 use mathlib.Core.Bool.{Bool, true, false, not, cond}
-use native.Mathlib.Omega.{arith}
-use lib.Dec.{leb}
-use borrow.Author.Tests.{not-true, not-false, lt-ltb, le-ltb, le-leb, lt-leb}
+use borrow.Author.Tests.{not-true, not-false, lt-ltb, le-ltb}
+use Rattle.lists.specs.Numbers.{between}
+use Rattle.lists.proofs.Exact.{between-exact}
 use Rattle.model.specs.declared.Core.{Core}
 use Rattle.model.specs.declared.Taken.{Taken}
 use Rattle.model.specs.Records.{maxSources, sourceId, taken}
@@ -24,46 +24,34 @@ module _ (f b : Bool) (x y z : Taken) where
   first e g = rw (e, g)
 
 module _ (c : Core) where
-  abbrev id : ℕ
-  id = c .message .source .0
-
-  abbrev p : ℕ
-  p = c .message .priority
-
-  pub id-low : id ≡ 0 → false ≡ claimable c
+  -- the tests in the code's order; each that fails decides
+  pub no-id : between 1 maxSources (c .message .source .0) ≡ false → false ≡ claimable c
   unfolding claimable
-  id-low e = rw (lt-leb 1 id (omega arith))
+  no-id e = rw e
 
-  module _ (above : 1 ≤ id) where
-    pub id-high : maxSources < id → false ≡ claimable c
+  module _ (named : between 1 maxSources (c .message .source .0) ≡ true) where
+    pub no-priority : between 1 (topPriority maxSources) (c .message .priority) ≡ false → false ≡ claimable c
     unfolding claimable
-    id-high h = rw (le-leb 1 id above, lt-leb id maxSources h)
+    no-priority e = rw (named, e)
 
-    module _ (within : id ≤ maxSources) where
-      pub priority-low : p ≡ 0 → false ≡ claimable c
+    module _ (in-range : between 1 (topPriority maxSources) (c .message .priority) ≡ true) where
+      pub not-above : c .message .priority ≤ c .configured → false ≡ claimable c
       unfolding claimable
-      priority-low e = rw (le-leb 1 id above, le-leb id maxSources within, lt-leb 1 p (omega arith))
+      not-above h = rw (named, in-range, le-ltb (c .configured) (c .message .priority) h)
 
-      module _ (some : 1 ≤ p) where
-        pub priority-high : topPriority maxSources < p → false ≡ claimable c
-        unfolding claimable
-        priority-high h =
-            rw (le-leb 1 id above, le-leb id maxSources within, le-leb 1 p some, lt-leb p (topPriority maxSources) h)
+      -- all other tests passed, so the last one decides
+      pub clean-decides : c .configured < c .message .priority → not (c .message .dirty) ≡ claimable c
+      unfolding claimable
+      clean-decides h = rw (named, in-range, lt-ltb (c .configured) (c .message .priority) h)
 
-        module _ (fits : p ≤ topPriority maxSources) where
-          in-range : leb p (topPriority maxSources) ≡ true
-          in-range = le-leb p (topPriority maxSources) fits
-
-          pub not-above : p ≤ c .configured → false ≡ claimable c
-          unfolding claimable
-          not-above h =
-              rw (le-leb 1 id above, le-leb id maxSources within, le-leb 1 p some, in-range, le-ltb (c .configured) p h)
-
-          -- all other tests passed, so the last one decides
-          pub clean-only : c .configured < p → not (c .message .dirty) ≡ claimable c
-          unfolding claimable
-          clean-only h =
-              rw (le-leb 1 id above, le-leb id maxSources within, le-leb 1 p some, in-range, lt-ltb (c .configured) p h)
+  -- the same from what the tests mean
+  pub clean-only :
+      1 ≤ c .message .source .0 → c .message .source .0 ≤ maxSources →
+      1 ≤ c .message .priority → c .message .priority ≤ topPriority maxSources →
+      c .configured < c .message .priority → not (c .message .dirty) ≡ claimable c
+  clean-only some-id id-in some-priority priority-in =
+      clean-decides ((between-exact 1 maxSources (c .message .source .0)) .1 (some-id, id-in))
+      ((between-exact 1 (topPriority maxSources) (c .message .priority)) .1 (some-priority, priority-in))
 
   -- ---- what the claim gives
 
@@ -86,7 +74,9 @@ module _ (c : Core) where
     taken-bad {b = b} e f q =
         q ∙ sym (second (c .message .filled) (claimable c) given bad none (not-false (c .message .filled) filled) (sym e ∙ not-true b f))
 
-    pub taken-good : {r : Taken} {b : Bool} {d : Core} → b ≡ claimable c → not b ≡ false → d ≡ claimedCore c → r ≡ taken 0 (c .message .source) d → r ≡ takenFrom c
+    pub taken-good :
+        {r : Taken} {b : Bool} {d : Core} → b ≡ claimable c → not b ≡ false → d ≡ claimedCore c →
+        r ≡ taken 0 (c .message .source) d → r ≡ takenFrom c
     unfolding takenFrom
     taken-good {b = b} e f g q =
         q ∙ ap (λ (x : Core). taken 0 (c .message .source) x) g ∙

@@ -1,5 +1,5 @@
 -- The row of keys while the ranks of a list are copied into it, one record at a time. Assumes nothing.
---   Filled l       how far the copying is, and the row: its first i keys are the ranks of the first i records
+--   Copied l       how far the copying is, and the row: its first i keys are the ranks of the first i records
 --   Further        the order in which the loop falls: fewer records left
 use Prim.Native.Nat.{ℕ, _+_, _-_, _<_, _≤_}
 use mathlib.Core.Path.{_≡_, refl, ap}
@@ -42,25 +42,25 @@ pub zeros-filling : (l : List Source) → Filling rank noSource l maxSources 0 z
 unfolding zeros
 zeros-filling l = filling-none rank noSource l maxSources
 
-pub record Filled (l : List Source) : Type 0 where
+pub record Copied (l : List Source) : Type 0 where
   pub i : ℕ
   pub keys : List ℕ
   pub within : i ≤ readOf (length l)
   pub filling : Filling rank noSource l maxSources i keys
 
 module _ (l : List Source) where
-  abbrev left : Filled l → ℕ
+  abbrev left : Copied l → ℕ
   left f = readOf (length l) - f .i
 
-  abbrev pub Further : Filled l → Filled l → Type 0
+  abbrev pub Further : Copied l → Copied l → Type 0
   Further f g = left f < left g
 
   pub further-wf : WellFounded Further
   further-wf = InvImage·wf left (Nat·lt-wfRel .wf)
 
   -- before the first turn
-  abbrev pub none-filled : (i : ℕ) → i ≡ 0 → Filled l
-  none-filled i e =
+  abbrev pub none-copied : (i : ℕ) → i ≡ 0 → Copied l
+  none-copied i e =
       record {
         i = i;
         keys = zeros;
@@ -69,8 +69,8 @@ module _ (l : List Source) where
       }
 
   -- the next record's rank is put in
-  module _ (f : Filled l) (k : ℕ) (more : f .i < readOf (length l)) (e : k ≡ rank (getD l (f .i) noSource)) where
-    abbrev pub one-more : Filled l
+  module _ (f : Copied l) (k : ℕ) (more : f .i < readOf (length l)) (e : k ≡ rank (getD l (f .i) noSource)) where
+    abbrev pub one-more : Copied l
     one-more =
         record {
           i = f .i + 1;
@@ -83,5 +83,5 @@ module _ (l : List Source) where
     nearer = omega arith
 
   -- nothing is left: the keys are the ranks of all that is read
-  pub all-filled : (f : Filled l) → readOf (length l) ≤ f .i → RanksOf l (readOf (length l)) (f .keys)
-  all-filled f h j g = f .filling .filled j (omega arith)
+  pub all-copied : (f : Copied l) → readOf (length l) ≤ f .i → RanksOf l (readOf (length l)) (f .keys)
+  all-copied f h j g = f .filling .filled j (omega arith)

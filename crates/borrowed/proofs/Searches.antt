@@ -34,15 +34,15 @@ extent-none len h = rw (lt-leb len maxSources h)
 
 -- ---- the position
 
-rank-none : (r : Source) → rank r ≡ 0 → candidate r ≡ false
-rank-none r e = go (candidate r) e
+unranked : (r : Source) → rank r ≡ 0 → candidate r ≡ false
+unranked r e = go (candidate r) e
   where
     go : (t : Bool) → cond t (suc (r .priority)) 0 ≡ 0 → t ≡ false
     go true q = absurd (omega arith)
     go false q = refl
 
-rank-some : (r : Source) → (rank r ≡ 0 → ⊥) → candidate r ≡ true
-rank-some r e = go (candidate r) e
+ranked : (r : Source) → (rank r ≡ 0 → ⊥) → candidate r ≡ true
+ranked r e = go (candidate r) e
   where
     go : (t : Bool) → (cond t (suc (r .priority)) 0 ≡ 0 → ⊥) → t ≡ true
     go true q = refl
@@ -66,12 +66,12 @@ module _ (ks : List ℕ) (n at : ℕ) (some : 1 ≤ n) (e : HighestKey ks 0 n at
 
   pub no-candidate : getD ks at 0 ≡ 0 → PositionByKeys ks n 0
   unfolding highestId
-  no-candidate z l h same = rw (rank-none (getD l (highest l n) noSource) (sym (its-rank l same) ∙ z))
+  no-candidate z l h same = rw (unranked (getD l (highest l n) noSource) (sym (its-rank l same) ∙ z))
 
   pub a-candidate : (getD ks at 0 ≡ 0 → ⊥) → PositionByKeys ks n (at + 1)
   unfolding highestId
   a-candidate z l h same =
-      rw (rank-some (getD l (highest l n) noSource) (λ q. z (its-rank l same ∙ q))) (add-one at ∙ ap suc (is-highest l same))
+      rw (ranked (getD l (highest l n) noSource) (λ q. z (its-rank l same ∙ q))) (add-one at ∙ ap suc (is-highest l same))
 
 -- ---- the answer
 

@@ -61,4 +61,5 @@ FoundIsWalk = (l : List Source) → foundIn l ≡ foundByWalk l
 abbrev pub LentClaimIsCommand : Type 0
 LentClaimIsCommand =
     (s : Controller) (k : CoreId) → WellFormed s → k .0 < s .m →
-    takenFrom (coreAt s (k .0)) ≡ taken ((execute s (OnCore k Claim)) .number) ((execute s (OnCore k Claim)) .id) (coreAt ((execute s (OnCore k Claim)) .state) (k .0))
+    takenFrom (coreAt s (k .0)) ≡
+    taken ((execute s (OnCore k Claim)) .number) ((execute s (OnCore k Claim)) .id) (coreAt ((execute s (OnCore k Claim)) .state) (k .0))

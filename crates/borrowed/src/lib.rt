@@ -4,6 +4,9 @@ ghost use mathlib.Core.Path.{_≡_};
 ghost use Rattle.model.specs.Records.{maxSources, taken, claimedAs};
 ghost use Rattle.borrowed.specs.Lent.{claimable as claimableCore, takenFrom, foundIn};
 ghost use Rattle.borrowed.specs.Keys.{extentOf, PositionByKeys, FoundByKeys};
+use checks::numbers::BAD_SIZE;
+use checks::numbers::MALFORMED;
+use checks::numbers::NOTHING_TO_CLAIM;
 use model::Claimed;
 use model::Core;
 use model::Found;
@@ -11,14 +14,6 @@ use model::SOURCES;
 use model::Source;
 use model::SourceId;
 use model::Taken;
-
-// ---- the numbers for no
-
-const MALFORMED: u8 = 1;
-
-const TOO_LONG: u8 = 2;
-
-const NOTHING_TO_CLAIM: u8 = 7;
 
 // ---- the claim of one core record
 
@@ -33,17 +28,10 @@ fn claimable(c: Core) -> bool
     ensures { λ b. ⌜ b ≡ claimableCore c ⌝ }
 {
     let b = c.message;
-    let id = b.source.0;
-    if id == 0 {
+    if !checks::names_source(SOURCES as u16, b.source) {
         return false;
     }
-    if id > SOURCES as u16 {
-        return false;
-    }
-    if b.priority == 0 {
-        return false;
-    }
-    if records::top_priority(SOURCES as u16) < b.priority as u32 {
+    if !checks::is_source_priority(SOURCES as u16, b.priority) {
         return false;
     }
     if b.priority <= c.configured {
@@ -94,7 +82,7 @@ fn extent_of(len: usize) -> Extent
 {
     if len > SOURCES {
         return Extent {
-            number: TOO_LONG,
+            number: BAD_SIZE,
             read: 0,
         };
     }

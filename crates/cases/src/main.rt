@@ -64,7 +64,7 @@ fn main() {
         let kind = row[1];
         let at = row[2];
         let priority = row[3];
-        match encoding::command(kind, at, priority) {
+        match decoding::command(kind, at, priority) {
             Decoded::Known(c) => {
                 print::label(row[0]);
                 print::command(c);

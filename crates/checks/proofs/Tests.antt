@@ -16,15 +16,15 @@ use Rattle.model.specs.declared.Core.{Core}
 use Rattle.model.specs.Records.{noCore}
 use Rattle.lists.specs.Walks.{some}
 use Rattle.model.specs.Requests.{holds, boxed}
-use Rattle.model.specs.Commands.{unless}
+use Rattle.model.specs.Commands.{badPriority, unless}
 
 -- ---- priorities
 
 module _ {t top : ℕ} (is : t ≡ top) (p : ℕ) where
-  pub in-top : p ≤ t → 0 ≡ unless (leb p top) 5 0
+  pub in-top : p ≤ t → 0 ≡ unless (leb p top) badPriority 0
   in-top h = rw (le-leb p top (omega arith))
 
-  pub above-top : t < p → 5 ≡ unless (leb p top) 5 0
+  pub above-top : t < p → badPriority ≡ unless (leb p top) badPriority 0
   above-top h = rw (lt-leb p top (omega arith))
 
 -- ---- looking for a box

@@ -1,4 +1,7 @@
-// What is checked of a command on a sound state: its id or core number, then what its own line of "Numbers for no" says. Nothing is changed.
+// What is checked of a command on a sound state: its id or core number, then what its own line of "Numbers for no" says. Nothing is
+// changed.
+pub mod numbers;
+
 ghost use Prim.Native.Nat.{_≤_};
 ghost use mathlib.Core.Path.{_≡_};
 ghost use mathlib.Core.Bool.{Bool, not, _&&_};
@@ -7,7 +10,7 @@ ghost use Rattle.lists.specs.Numbers.{between};
 ghost use Rattle.model.specs.Records.{maxCores};
 ghost use Rattle.model.specs.Priorities.{topPriority};
 ghost use Rattle.model.specs.Requests.{boxed as boxedIn};
-ghost use Rattle.checks.specs.Numbers.{sourceNumber, coreNumber};
+ghost use Rattle.checks.specs.Refusals.{sourceRefusalBy, coreRefusalBy};
 use model::CORES;
 use model::Core;
 use model::CoreAction;
@@ -15,15 +18,26 @@ use model::CoreId;
 use model::Source;
 use model::SourceAction;
 use model::SourceId;
+use numbers::ALREADY_PENDING;
+use numbers::BAD_PRIORITY;
+use numbers::NOT_CLAIMED;
+use numbers::NOTHING_TO_CLAIM;
+
+// Whether x is 1 to top.
+pub fn one_to(top: u32, x: u16) -> bool
+    ensures { λ r. ⌜ r ≡ between 1 top x ⌝ }
+{
+    if x == 0 {
+        return false;
+    }
+    x as u32 <= top
+}
 
 // Whether the id is 1 to n.
 pub fn names_source(n: u16, id: SourceId) -> bool
     ensures { λ r. ⌜ r ≡ between 1 n (id .0) ⌝ }
 {
-    if id.0 == 0 {
-        return false;
-    }
-    id.0 <= n
+    one_to(n as u32, id.0)
 }
 
 // Whether the core's number is 0 to m - 1.
@@ -65,31 +79,28 @@ pub fn is_claimed(s: Source, cores: [Core; CORES], m: usize, id: SourceId) -> bo
 }
 
 // Whether a source may have the priority: 1 to the top one of n sources.
-fn is_source_priority(n: u16, p: u16) -> bool
+pub fn is_source_priority(n: u16, p: u16) -> bool
     ensures { λ r. ⌜ r ≡ between 1 (topPriority n) p ⌝ }
 {
-    if p == 0 {
-        return false;
-    }
-    p as u32 <= records::top_priority(n)
+    one_to(records::top_priority(n), p)
 }
 
 // The number for no of an action on a source's record r, 0 for none; claimed says whether its request is.
-pub fn source_number(n: u16, r: Source, claimed: bool, a: SourceAction) -> u8
-    ensures { λ k. ⌜ k ≡ sourceNumber n r claimed a ⌝ }
+pub fn source_refusal(n: u16, r: Source, claimed: bool, a: SourceAction) -> u8
+    ensures { λ k. ⌜ k ≡ sourceRefusalBy n r claimed a ⌝ }
 {
     match a {
         SourceAction::SetSourcePriority(p) => {
             if is_source_priority(n, p) {
                 return 0;
             }
-            5
+            BAD_PRIORITY
         }
         SourceAction::Mask => 0,
         SourceAction::Unmask => 0,
         SourceAction::Trigger => {
             if r.pending {
-                return 6;
+                return ALREADY_PENDING;
             }
             0
         }
@@ -97,33 +108,33 @@ pub fn source_number(n: u16, r: Source, claimed: bool, a: SourceAction) -> u8
             if claimed {
                 return 0;
             }
-            8
+            NOT_CLAIMED
         }
         SourceAction::Complete => {
             if claimed {
                 return 0;
             }
-            8
+            NOT_CLAIMED
         }
     }
 }
 
 // The number for no of an action on a core's record c, 0 for none.
-pub fn core_number(n: u16, c: Core, a: CoreAction) -> u8
-    ensures { λ k. ⌜ k ≡ coreNumber n c a ⌝ }
+pub fn core_refusal(n: u16, c: Core, a: CoreAction) -> u8
+    ensures { λ k. ⌜ k ≡ coreRefusalBy n c a ⌝ }
 {
     match a {
         CoreAction::SetCorePriority(p) => {
             if p as u32 <= records::top_priority(n) {
                 return 0;
             }
-            5
+            BAD_PRIORITY
         }
         CoreAction::Claim => {
             if c.message.filled {
                 return 0;
             }
-            7
+            NOTHING_TO_CLAIM
         }
     }
 }

@@ -2,6 +2,7 @@
 // Each contract is one equation with its definition: it fixes state, number, id and cycles on every input.
 ghost use mathlib.Core.Path.{_≡_};
 ghost use Rattle.model.specs.Commands.{execute as executeOf, make as makeOf};
+use checks::numbers::BAD_SIZE;
 use model::Answer;
 use model::Command;
 use model::Controller;
@@ -12,7 +13,7 @@ pub fn make(n: u16, m: u16) -> Answer
     ensures { λ r. ⌜ r ≡ makeOf n m ⌝ }
 {
     if !well_formed::sizes_in_range(n, m) {
-        return records::refused(records::reset(1, 1), 2);
+        return records::refused(records::reset(1, 1), BAD_SIZE);
     }
     records::accepted(records::reset(n, m), SourceId(0), 0)
 }

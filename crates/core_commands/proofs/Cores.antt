@@ -22,7 +22,7 @@ use Rattle.model.specs.WellFormed.{wellFormed, WellFormed, Consistent}
 use Rattle.model.specs.Settling.{settle, cyclesOf}
 use Rattle.model.specs.Commands.{claimedCore, namesCore, coreRefusal, effect, refusalOf, answeredId, settled, execute}
 use Rattle.lists.proofs.Bools.{passing}
-use Rattle.checks.specs.Numbers.{coreNumber}
+use Rattle.checks.specs.Refusals.{coreRefusalBy}
 use Rattle.well_formed.proofs.Test.{wellFormed-out}
 use Rattle.settling.specs.declared.Reached.{Reached}
 use Rattle.settling.specs.Phases.{AllDirty}
@@ -46,14 +46,15 @@ addressed {s} {k} tests e names g =
     let x : WellFormed s = wellFormed-out s (passing tests e) in
     record { sound = passing tests e; named = passing names g; in-array = omega (arith, x .consistent .m-le) }
 
-pub number-is : (s : Controller) (k : ℕ) (a : CoreAction) → coreNumber (s .n) (coreAt s k) a ≡ coreRefusal s k a
+pub number-is : (s : Controller) (k : ℕ) (a : CoreAction) → coreRefusalBy (s .n) (coreAt s k) a ≡ coreRefusal s k a
 number-is s k (SetCorePriority p) = refl
 number-is s k Claim = refl
 
 -- ---- claim
 
 pub claim-rests : {s : Controller} {k : CoreId} {a : CoreAction} → a ≡ Claim → AddressedCore s k → coreRefusal s (k .0) a ≡ 0 →
-    {d : Core} → d ≡ claimedCore (coreAt s (k .0)) → answer (withCore s (k .0) d) 0 ((coreAt s (k .0)) .message .source .0) 0 ≡ execute s (OnCore k a)
+    {d : Core} → d ≡ claimedCore (coreAt s (k .0)) →
+    answer (withCore s (k .0) d) 0 ((coreAt s (k .0)) .message .source .0) 0 ≡ execute s (OnCore k a)
 claim-rests {s} {k} {a} is h passes new =
     let unrefused : refusalOf s (OnCore k Claim) ≡ 0 = free s (OnCore k Claim) (h .sound) (h .named) (rw is at passes) in
     let (k-lt, filled) = checked s (OnCore k Claim) unrefused in

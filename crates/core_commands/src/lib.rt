@@ -2,6 +2,8 @@
 ghost use mathlib.Core.Path.{_≡_};
 ghost use mathlib.Core.List.{map};
 ghost use Rattle.model.specs.Commands.{soiled, execute as executeOf};
+use checks::numbers::BAD_CORE;
+use checks::numbers::MALFORMED;
 use model::Answer;
 use model::CORES;
 use model::Command;
@@ -28,14 +30,14 @@ pub fn on_core(s: Controller, core: CoreId, a: CoreAction) -> Answer
     ensures { λ r. ⌜ r ≡ executeOf s (Command.OnCore core a) ⌝ }
 {
     if !well_formed::well_formed(s) {
-        return records::refused(s, 1);
+        return records::refused(s, MALFORMED);
     }
     if !checks::names_core(s.m, core) {
-        return records::refused(s, 3);
+        return records::refused(s, BAD_CORE);
     }
     let k = core.0 as usize;
     let c = s.cores[k];
-    let number = checks::core_number(s.n, c, a);
+    let number = checks::core_refusal(s.n, c, a);
     if number != 0 {
         return records::refused(s, number);
     }

@@ -1,16 +1,15 @@
 -- Writing bytes: stores one after another are one run of stores, and runs written from the front make up a state's bytes.
 -- Assumes nothing.
---   sets-append                                                  two runs of stores, one right behind the other, are one run
 --   word-stores, source-written, core-written, answer-written, command-written    one record, from what each store and call leaves
 --   Written, written-none, source-more, core-more                how far a state is written
 --   all-written                                                  past the last source and the last core the bytes are the state's
-use Prim.Native.Nat.{ℕ, suc, _+_, _*_, _<_, _≤_}
+use Prim.Native.Nat.{ℕ, _+_, _*_, _<_, _≤_}
 use mathlib.Core.Path.{_≡_, refl, sym, _∙_, ap}
 use mathlib.Core.List.{List, [], _∷_, _++_, append-nil, append-assoc}
 use native.Mathlib.Omega.{arith}
 use native.Mathlib.Numerals.{add-one, towards-suc}
-use lib.ListN.{length, set, take, drop, length-append, length-take}
-use lib.Seq.{sets, sets-eq, length-sets, take-at, take-all}
+use lib.ListN.{length, set, take}
+use lib.Seq.{sets, length-sets, take-all}
 use Rattle.model.specs.declared.Source.{Source}
 use Rattle.model.specs.declared.Core.{Core}
 use Rattle.model.specs.declared.Controller.{Controller}
@@ -20,12 +19,8 @@ use Rattle.layout.specs.Commands.{numberOf, targetOf, levelOf}
 use Rattle.layout.specs.Bytes.{word, flagByte, sourceSize, coreSize, stateSize, sourcesFrom, coresFrom, sourceBytes, coreBytes, stateBytes, commandBytes}
 use Rattle.lists.specs.Rows.{joined}
 use Rattle.layout.specs.Statements.{Sized}
+use Rattle.lists.proofs.Writes.{take-sets}
 use Rattle.lists.proofs.Rows.{joined-more}
-
-pub sets-append :
-    (b : List ℕ) (i j : ℕ) (xs ys : List ℕ) → j ≡ i + length xs → sets (sets b i xs) j ys ≡ sets b i (xs ++ ys)
-sets-append b i j [] ys e = ap (λ (k : ℕ). sets b k ys) (omega arith)
-sets-append b i j (x ∷ xs) ys e = sets-append (set b i x) (suc i) j xs ys (omega arith)
 
 module _ (b : List ℕ) (i : ℕ) where
   pub word-stores : (x y : ℕ) → set (set b i x) (i + 1) y ≡ sets b i (x ∷ y ∷ [])
@@ -65,13 +60,7 @@ module _ (b : List ℕ) (i : ℕ) where
 
 -- ---- what is written from the front
 
--- a run of stores right behind a front makes the front longer
-take-sets : (l vs : List ℕ) (i : ℕ) → i + length vs ≤ length l → take (i + length vs) (sets l i vs) ≡ take i l ++ vs
-take-sets l vs i h =
-    let size : length (take i l ++ vs) ≡ i + length vs = simp (length-append, length-take) (omega arith) in
-    ap (take (i + length vs)) (sets-eq vs l i h) ∙ take-at (take i l ++ vs) (drop (i + length vs) l) (i + length vs) size
-
--- the same with the longer front's place and what the front was given
+-- bytes stored right behind a front make it longer
 front-more :
     (b b′ p vs : List ℕ) (i j : ℕ) → b′ ≡ sets b i vs → j ≡ i + length vs → j ≤ length b → take i b ≡ p → take j b′ ≡ p ++ vs
 front-more b b′ p vs i j e ej h ep =

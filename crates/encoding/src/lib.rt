@@ -1,34 +1,34 @@
-// A state as bytes, read and written, with a word, a command and an answer, and a command from its numbers. The layout is that of
-// layout/specs/Bytes.antt. Calls for the exports, which test lengths first; the program cases reads its commands here too.
+// A state, a command and an answer written as bytes. The bytes are those of layout/specs/Bytes.antt. Calls for the exports, which test
+// lengths first.
 ghost use Prim.Native.Nat.{_+_, _<_, _≤_};
 ghost use mathlib.Core.Path.{_≡_};
 ghost use mathlib.Core.List.{_∷_, _++_};
 ghost use lib.ListN.{length};
 ghost use lib.Seq.{sets};
-ghost use Rattle.layout.specs.Commands.{commandOf, sourceNumber, coreNumber, sourceLevel, coreLevel, numberOf, targetOf, levelOf};
-ghost use Rattle.layout.specs.Bytes.{word, flagByte, wordAt, sourceSize, coreSize, stateSize, sourceBytes, coreBytes, stateBytes, sourceFrom, coreFrom, stateFrom, sourceFlags, coreFlags, isState, commandSize, commandBytes, answerSize};
+ghost use Rattle.layout.specs.Commands.{sourceNumber, coreNumber, sourceLevel, coreLevel, numberOf, targetOf, levelOf};
+ghost use Rattle.layout.specs.Bytes.{word, flagByte, sourceSize, coreSize, stateSize, commandSize, answerSize};
+ghost use Rattle.layout.specs.Bytes.{sourceBytes, coreBytes, stateBytes, commandBytes};
+use layout::BOX_DIRTY;
+use layout::BOX_FILLED;
+use layout::BOX_PRIORITY;
+use layout::BOX_SOURCE;
+use layout::CORE_SIZE;
+use layout::CORES_FROM;
+use layout::SOURCE_DELIVERED;
+use layout::SOURCE_MASKED;
+use layout::SOURCE_PENDING;
+use layout::SOURCE_PRIORITY;
+use layout::SOURCE_SIZE;
+use layout::SOURCES_FROM;
 use model::CORES;
 use model::Command;
 use model::Controller;
 use model::Core;
 use model::CoreAction;
-use model::CoreId;
-use model::Decoded;
 use model::SOURCES;
 use model::Source;
 use model::SourceAction;
 use model::SourceId;
-
-// The bytes of a source and of a core; where the sources and the cores begin, and the state ends.
-const SOURCE_SIZE: usize = 7;
-
-const CORE_SIZE: usize = 8;
-
-const SOURCES_FROM: usize = 4;
-
-const CORES_FROM: usize = SOURCES_FROM + SOURCE_SIZE * SOURCES;
-
-pub const STATE_SIZE: usize = CORES_FROM + CORE_SIZE * CORES;
 
 // A command's own number, 0 to 7, the id or the core, and the priority, 0 where it has none.
 struct Numbers {
@@ -36,131 +36,6 @@ struct Numbers {
     target: u16,
     level: u16,
 }
-
-// ---- reading
-
-// The word at i, its lower byte first.
-pub fn word_at(b: &[u8], i: usize) -> u16
-    requires { ⌜ i + 1 < length (now b) ⌝ }
-    ensures { λ r. ⌜ r ≡ wordAt (now (b .entry)) i ⌝ }
-{
-    let low = b[i] as u16;
-    let high = b[i + 1] as u16;
-    low + 256 * high
-}
-
-// The source whose bytes begin at i.
-fn source_from(b: &[u8], i: usize) -> Source
-    requires { ⌜ i + sourceSize ≤ length (now b) ⌝ }
-    ensures { λ r. ⌜ r ≡ sourceFrom (now (b .entry)) i ⌝ }
-{
-    records::source_with(
-        word_at(b, i),
-        b[i + 2] == 1,
-        b[i + 3] == 1,
-        b[i + 4] == 1,
-        word_at(b, i + 5),
-    )
-}
-
-// The core whose bytes begin at i.
-fn core_from(b: &[u8], i: usize) -> Core
-    requires { ⌜ i + coreSize ≤ length (now b) ⌝ }
-    ensures { λ r. ⌜ r ≡ coreFrom (now (b .entry)) i ⌝ }
-{
-    let id = SourceId(word_at(b, i + 4));
-    records::core_with(
-        word_at(b, i),
-        records::box_with(b[i + 2] == 1, b[i + 3] == 1, id, word_at(b, i + 6)),
-    )
-}
-
-// The state that the bytes encode.
-pub fn state_from(b: &[u8]) -> Controller
-    requires { ⌜ length (now b) ≡ stateSize ⌝ }
-    ensures { λ r. ⌜ r ≡ stateFrom (now (b .entry)) ⌝ }
-{
-    let mut s = records::reset(word_at(b, 0), word_at(b, 2));
-    let mut i = 0;
-    while i < SOURCES {
-        s.sources[i] = source_from(b, SOURCES_FROM + SOURCE_SIZE * i);
-        i += 1;
-    }
-    let mut k = 0;
-    while k < CORES {
-        s.cores[k] = core_from(b, CORES_FROM + CORE_SIZE * k);
-        k += 1;
-    }
-    s
-}
-
-// Whether the three flags of the source at i are flags.
-fn source_flags(b: &[u8], i: usize) -> bool
-    requires { ⌜ i + sourceSize ≤ length (now b) ⌝ }
-    ensures { λ r. ⌜ r ≡ sourceFlags (now (b .entry)) i ⌝ }
-{
-    if 1 < b[i + 2] {
-        return false;
-    }
-    if 1 < b[i + 3] {
-        return false;
-    }
-    b[i + 4] <= 1
-}
-
-// Whether the two flags of the core at i are flags.
-fn core_flags(b: &[u8], i: usize) -> bool
-    requires { ⌜ i + coreSize ≤ length (now b) ⌝ }
-    ensures { λ r. ⌜ r ≡ coreFlags (now (b .entry)) i ⌝ }
-{
-    if 1 < b[i + 2] {
-        return false;
-    }
-    b[i + 3] <= 1
-}
-
-// Whether the bytes encode a state: the length is right, and each flag is 0 or 1.
-pub fn is_state(b: &[u8]) -> bool
-    ensures { λ r. ⌜ r ≡ isState (now (b .entry)) ⌝ }
-{
-    if b.len() != STATE_SIZE {
-        return false;
-    }
-    let mut passed = 0;
-    while passed < SOURCES {
-        if !source_flags(b, SOURCES_FROM + SOURCE_SIZE * passed) {
-            return false;
-        }
-        passed += 1;
-    }
-    let mut cores_passed = 0;
-    while cores_passed < CORES {
-        if !core_flags(b, CORES_FROM + CORE_SIZE * cores_passed) {
-            return false;
-        }
-        cores_passed += 1;
-    }
-    true
-}
-
-// The command that three numbers name: its own, 0 to 7, the id or the core, and the priority. A number above 7 names none.
-pub fn command(number: u16, at: u16, p: u16) -> Decoded
-    ensures { λ r. ⌜ r ≡ commandOf number at p ⌝ }
-{
-    match number {
-        0 => Decoded::Known(Command::OnSource(SourceId(at), SourceAction::SetSourcePriority(p))),
-        1 => Decoded::Known(Command::OnSource(SourceId(at), SourceAction::Mask)),
-        2 => Decoded::Known(Command::OnSource(SourceId(at), SourceAction::Unmask)),
-        3 => Decoded::Known(Command::OnCore(CoreId(at), CoreAction::SetCorePriority(p))),
-        4 => Decoded::Known(Command::OnSource(SourceId(at), SourceAction::Trigger)),
-        5 => Decoded::Known(Command::OnCore(CoreId(at), CoreAction::Claim)),
-        6 => Decoded::Known(Command::OnSource(SourceId(at), SourceAction::Redeliver)),
-        7 => Decoded::Known(Command::OnSource(SourceId(at), SourceAction::Complete)),
-        _ => Decoded::Unknown,
-    }
-}
-
-// ---- writing
 
 fn put_word(b: &mut [u8], i: usize, x: u16)
     requires { ⌜ i + 1 < length (now b) ⌝ }
@@ -181,10 +56,10 @@ fn put_source(b: &mut [u8], i: usize, r: Source)
     ensures { λ x. ⌜ now (b .exit) ≡ sets (now (b .entry)) i (sourceBytes r) ⌝ }
 {
     put_word(b, i, r.configured);
-    b[i + 2] = flag_byte(r.masked);
-    b[i + 3] = flag_byte(r.pending);
-    b[i + 4] = flag_byte(r.delivered);
-    put_word(b, i + 5, r.priority);
+    b[i + SOURCE_MASKED] = flag_byte(r.masked);
+    b[i + SOURCE_PENDING] = flag_byte(r.pending);
+    b[i + SOURCE_DELIVERED] = flag_byte(r.delivered);
+    put_word(b, i + SOURCE_PRIORITY, r.priority);
 }
 
 fn put_core(b: &mut [u8], i: usize, c: Core)
@@ -192,10 +67,10 @@ fn put_core(b: &mut [u8], i: usize, c: Core)
     ensures { λ x. ⌜ now (b .exit) ≡ sets (now (b .entry)) i (coreBytes c) ⌝ }
 {
     put_word(b, i, c.configured);
-    b[i + 2] = flag_byte(c.message.filled);
-    b[i + 3] = flag_byte(c.message.dirty);
-    put_word(b, i + 4, c.message.source.0);
-    put_word(b, i + 6, c.message.priority);
+    b[i + BOX_FILLED] = flag_byte(c.message.filled);
+    b[i + BOX_DIRTY] = flag_byte(c.message.dirty);
+    put_word(b, i + BOX_SOURCE, c.message.source.0);
+    put_word(b, i + BOX_PRIORITY, c.message.priority);
 }
 
 // The state's bytes, written over a buffer of just their length.

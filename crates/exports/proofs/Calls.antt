@@ -18,7 +18,7 @@ use Rattle.model.specs.declared.Answer.{Answer}
 use Rattle.model.specs.Commands.{execute, make, run}
 use Rattle.layout.specs.Commands.{commandOf}
 use Rattle.layout.specs.Bytes.{stateSize, stateBytes, stateFrom, isState, commandsIn, unreadable, packed, Call, callOf, Does, makeCall, executedOn, executeCall, DoesRun, noCount, fitsRun, RunCall, runCallOf, runCall}
-use Rattle.encoding.proofs.Answers.{answersFrom}
+use Rattle.layout.proofs.Answers.{answersFrom}
 
 done : (r : ℕ) (b : List ℕ) (call : Call) → call ≡ callOf r b → Does r b call
 done r b call e = (sym (ap (λ (x : Call). x .result) e), sym (ap (λ (x : Call). x .bytes) e))

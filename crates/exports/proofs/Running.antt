@@ -1,9 +1,9 @@
 -- The run of a list of commands, a command at a time. Assumes nothing.
---   Taken                     the commands before place i are taken: what is left of the list, run from the state reached, ends as the
+--   RunTo                     the commands before place i are taken: what is left of the list, run from the state reached, ends as the
 --                             whole list does from the start, and the answers of what is left, put behind those so far, give the
 --                             answers of the whole
---   taken-none, taken-more    no command is taken; one more command is taken
---   taken-all                 no command is left: what the run answers and writes
+--   run-none, run-more    no command is taken; one more command is taken
+--   run-all                 no command is left: what the run answers and writes
 use Prim.Native.Nat.{ℕ, _+_, _/_, _%_, _<_, _≤_}
 use mathlib.Core.Path.{_≡_, refl, sym, ap, _∙_}
 use mathlib.Core.List.{List, [], _∷_}
@@ -20,7 +20,7 @@ use Rattle.model.specs.Commands.{execute, run}
 use Rattle.layout.specs.Bytes.{stateFrom, stateBytes, isState, DoesRun, runCall, commandSize, commandsIn, answerBytes}
 use Rattle.lists.specs.Rows.{joined}
 use Rattle.exports.proofs.Commands.{commandAt, commands-there}
-use Rattle.encoding.proofs.Answers.{answersFrom, answers-more}
+use Rattle.layout.proofs.Answers.{answersFrom, answers-more}
 use Rattle.exports.proofs.Buffers.{fits}
 
 -- the commands from place i on
@@ -28,7 +28,7 @@ abbrev pub left : List ℕ → ℕ → List Command
 left list i = commandsIn (drop i list)
 
 module _ (list answers₀ : List ℕ) (s₀ : Controller) where
-  pub record Taken (answers : List ℕ) (s : Controller) (i : ℕ) : Type 0 where
+  pub record RunTo (answers : List ℕ) (s : Controller) (i : ℕ) : Type 0 where
     pub within : i ≤ length list
     pub whole : length list % commandSize ≡ 0
     pub place : i % commandSize ≡ 0
@@ -38,8 +38,8 @@ module _ (list answers₀ : List ℕ) (s₀ : Controller) where
     pub runs : run s (left list i) ≡ run s₀ (commandsIn list)
     pub written : sets answers i (answersFrom s (left list i)) ≡ sets answers₀ 0 (answersFrom s₀ (commandsIn list))
 
-  pub taken-none : length list % commandSize ≡ 0 → length list ≤ length answers₀ → Taken answers₀ s₀ 0
-  taken-none e h =
+  pub run-none : length list % commandSize ≡ 0 → length list ≤ length answers₀ → RunTo answers₀ s₀ 0
+  run-none e h =
       record {
         within = omega arith;
         whole = e;
@@ -53,16 +53,16 @@ module _ (list answers₀ : List ℕ) (s₀ : Controller) where
 
   -- a place before the end has a whole command
   pub more-left :
-      (answers : List ℕ) (s : Controller) (i : ℕ) → Taken answers s i → i < length list → i + commandSize ≤ length list
+      (answers : List ℕ) (s : Controller) (i : ℕ) → RunTo answers s i → i < length list → i + commandSize ≤ length list
   more-left answers s i t h = omega (arith, t .whole, t .place)
 
-  pub taken-more :
+  pub run-more :
       (answers answers′ : List ℕ) (s : Controller) (i : ℕ) (c : Command) (a : Answer) →
-      Taken answers s i → i < length list →
+      RunTo answers s i → i < length list →
       commandAt list i ≡ Known c → a ≡ execute s c → answers′ ≡ sets answers i (answerBytes a) →
-      Taken answers′ (a .state) (i + commandSize)
+      RunTo answers′ (a .state) (i + commandSize)
   unfolding runBy
-  taken-more answers answers′ s i c a t h ec ea e =
+  run-more answers answers′ s i c a t h ec ea e =
       let next : i + commandSize ≤ length list = more-left answers s i t h in
       let rest = left list (i + commandSize) in
       let commands : left list i ≡ c ∷ rest = commands-there list i (Known c) next ec in
@@ -79,13 +79,13 @@ module _ (list answers₀ : List ℕ) (s₀ : Controller) where
             ∙ t .written;
       }
 
-pub taken-all :
+pub run-all :
     (b list answers₀ : List ℕ) (s₀ : Controller) (answers b′ : List ℕ) (s : Controller) (i : ℕ) →
     isState b ≡ true → s₀ ≡ stateFrom b →
-    Taken list answers₀ s₀ answers s i → left list i ≡ [] → b′ ≡ stateBytes s →
+    RunTo list answers₀ s₀ answers s i → left list i ≡ [] → b′ ≡ stateBytes s →
     DoesRun (i / commandSize) b′ answers (runCall b list answers₀)
 unfolding runCall runBy answersBy joined
-taken-all b list answers₀ s₀ answers b′ s i eb es t none e =
+run-all b list answers₀ s₀ answers b′ s i eb es t none e =
     let count : i / commandSize ≡ length (commandsIn list) = omega (arith, ap length none, t .counts) in
     let reached : s ≡ run s₀ (commandsIn list) = sym (ap (run s) none) ∙ t .runs in
     let written : answers ≡ sets answers₀ 0 (answersFrom s₀ (commandsIn list))

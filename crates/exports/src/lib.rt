@@ -4,6 +4,8 @@
 ghost use Prim.Native.Nat.{_+_, _*_};
 ghost use mathlib.Core.Path.{_≡_};
 ghost use Rattle.layout.specs.Bytes.{Does, makeCall, executeCall, DoesRun, runCall};
+use layout::COMMAND_SIZE;
+use layout::STATE_SIZE;
 use model::Decoded;
 use model::SourceId;
 
@@ -23,7 +25,7 @@ fn packed(number: u8, id: SourceId, cycles: u16) -> u64
 pub extern "C" fn psic_make(n: u16, m: u16, state: &mut [u8]) -> u64
     ensures { λ r. ⌜ Does r (now (state .exit)) (makeCall n m (now (state .entry))) ⌝ }
 {
-    if state.len() != encoding::STATE_SIZE {
+    if state.len() != STATE_SIZE {
         return UNREADABLE;
     }
     let made = commands::make(n, m);
@@ -41,13 +43,13 @@ pub extern "C" fn psic_make(n: u16, m: u16, state: &mut [u8]) -> u64
 pub extern "C" fn psic_execute(state: &mut [u8], number: u16, at: u16, priority: u16) -> u64
     ensures { λ r. ⌜ Does r (now (state .exit)) (executeCall number at priority (now (state .entry))) ⌝ }
 {
-    if !encoding::is_state(state) {
+    if !decoding::is_state(state) {
         return UNREADABLE;
     }
-    match encoding::command(number, at, priority) {
+    match decoding::command(number, at, priority) {
         Decoded::Unknown => UNREADABLE,
         Decoded::Known(c) => {
-            let given = encoding::state_from(state);
+            let given = decoding::state_from(state);
             let a = commands::execute(given, c);
             let next = a.state;
             encoding::put_state(state, next);
@@ -63,22 +65,22 @@ pub extern "C" fn psic_run(state: &mut [u8], list: &[u8], answers: &mut [u8]) ->
     ensures { λ r. ⌜ DoesRun r (now (state .exit)) (now (answers .exit))
         (runCall (now (state .entry)) (now (list .entry)) (now (answers .entry))) ⌝ }
 {
-    if list.len() % 5 != 0 {
+    if list.len() % COMMAND_SIZE != 0 {
         return NO_COUNT;
     }
     if answers.len() < list.len() {
         return NO_COUNT;
     }
-    if !encoding::is_state(state) {
+    if !decoding::is_state(state) {
         return NO_COUNT;
     }
-    let mut s = encoding::state_from(state);
+    let mut s = decoding::state_from(state);
     let mut i = 0;
     while i < list.len() {
-        let read = encoding::command(
+        let read = decoding::command(
             list[i] as u16,
-            encoding::word_at(list, i + 1),
-            encoding::word_at(list, i + 3),
+            decoding::word_at(list, i + 1),
+            decoding::word_at(list, i + 3),
         );
         match read {
             Decoded::Unknown => break,
@@ -88,8 +90,8 @@ pub extern "C" fn psic_run(state: &mut [u8], list: &[u8], answers: &mut [u8]) ->
                 s = a.state;
             }
         }
-        i += 5;
+        i += COMMAND_SIZE;
     }
     encoding::put_state(state, s);
-    (i / 5) as u64
+    (i / COMMAND_SIZE) as u64
 }

@@ -85,11 +85,15 @@ abbrev pub coreFrom : List ℕ → ℕ → Core
 coreFrom b i =
     coreWith (wordAt b i) (boxWith (flagAt b (i + 2)) (flagAt b (i + 3)) (sourceId (wordAt b (i + 4))) (wordAt b (i + 6)))
 
+-- Of a state's bytes: the source with id i + 1, and core k.
+abbrev pub sourceOf : List ℕ → ℕ → Source
+sourceOf b i = sourceFrom b (sourcesFrom + sourceSize * i)
+
+abbrev pub coreOf : List ℕ → ℕ → Core
+coreOf b k = coreFrom b (coresFrom + coreSize * k)
+
 unfoldable pub stateFrom : List ℕ → Controller
-stateFrom b =
-    controllerWith (wordAt b 0) (wordAt b 2)
-    (tabulated maxSources (λ i. sourceFrom b (sourcesFrom + sourceSize * i)))
-    (tabulated maxCores (λ k. coreFrom b (coresFrom + coreSize * k)))
+stateFrom b = controllerWith (wordAt b 0) (wordAt b 2) (tabulated maxSources (sourceOf b)) (tabulated maxCores (coreOf b))
 
 abbrev pub sourceFlags : List ℕ → ℕ → Bool
 sourceFlags b i = isFlagAt b (i + 2) && isFlagAt b (i + 3) && isFlagAt b (i + 4)
@@ -97,11 +101,14 @@ sourceFlags b i = isFlagAt b (i + 2) && isFlagAt b (i + 3) && isFlagAt b (i + 4)
 abbrev pub coreFlags : List ℕ → ℕ → Bool
 coreFlags b i = isFlagAt b (i + 2) && isFlagAt b (i + 3)
 
+abbrev pub sourceFlagsOf : List ℕ → ℕ → Bool
+sourceFlagsOf b i = sourceFlags b (sourcesFrom + sourceSize * i)
+
+abbrev pub coreFlagsOf : List ℕ → ℕ → Bool
+coreFlagsOf b k = coreFlags b (coresFrom + coreSize * k)
+
 unfoldable pub isState : List ℕ → Bool
-isState b =
-    eqb (length b) stateSize &&
-    every maxSources (λ i. sourceFlags b (sourcesFrom + sourceSize * i)) &&
-    every maxCores (λ k. coreFlags b (coresFrom + coreSize * k))
+isState b = eqb (length b) stateSize && every maxSources (sourceFlagsOf b) && every maxCores (coreFlagsOf b)
 
 -- ---- commands and answers
 

@@ -29,11 +29,11 @@ pub record Sized (s : Controller) : Type 0 where
 abbrev pub IsWord : ℕ → Type 0
 IsWord x = x < 2 ^ 16
 
-pub record SourceFits (r : Source) : Type 0 where
+pub record SourceInWords (r : Source) : Type 0 where
   pub configured : IsWord (r .configured)
   pub priority : IsWord (r .priority)
 
-pub record CoreFits (c : Core) : Type 0 where
+pub record CoreInWords (c : Core) : Type 0 where
   pub configured : IsWord (c .configured)
   pub source : IsWord (c .message .source .0)
   pub priority : IsWord (c .message .priority)
@@ -41,8 +41,8 @@ pub record CoreFits (c : Core) : Type 0 where
 pub record Fits (s : Controller) : Type 0 where
   pub n : IsWord (s .n)
   pub m : IsWord (s .m)
-  pub sources : (i : ℕ) → i < length (s .sources) → SourceFits (sourceAt s i)
-  pub cores : (k : ℕ) → k < length (s .cores) → CoreFits (coreAt s k)
+  pub sources : (i : ℕ) → i < length (s .sources) → SourceInWords (sourceAt s i)
+  pub cores : (k : ℕ) → k < length (s .cores) → CoreInWords (coreAt s k)
 
 abbrev pub AreBytes : List ℕ → Type 0
 AreBytes b = (i : ℕ) → i < length b → getD b i 0 < 256

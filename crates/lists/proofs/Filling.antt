@@ -1,37 +1,101 @@
--- A row of numbers, one for each element of a list (`FilledTo`). Assumes nothing.
---   Filling f d l size i ks       a row of that size while it is filled from the front: the first i numbers are there
---   filling-none, filling-more    nothing is filled; the number of the next element is written
---   filled-written                an element and its number written at the same index
-use Prim.Native.Nat.{ℕ, _+_, _<_}
-use mathlib.Core.Path.{_≡_, _∙_}
-use mathlib.Core.List.{List}
+-- A list filled from the front: something is written to one element after another. Assumes nothing.
+--   Filled P Q d size i l          a list of that size: P holds of each of the first i elements, Q of each of the others
+--   filled-none, filled-more       nothing is written; the next element is
+--   filled-tabulated, filled-map   all are written: the list of a function's values; a list changed element by element
+--   Filling f d l size i ks        a row of numbers filled so, one for each element of l (`FilledTo`)
+--   filling-none, filling-more     the same of such a row
+--   filled-written                 an element and its number written at the same index
+use Prim.Native.Nat.{ℕ, zero, suc, _+_, _<_, _≤_}
+use mathlib.Core.Path.{_≡_, refl, sym, ap₂, _∙_}
+use mathlib.Core.List.{List, [], _∷_, map}
 use lib.ListN.{length, getD, set, replicate, length-replicate, length-set}
 use lib.Seq.{getD-set-same, getD-set-other}
-use native.Mathlib.Nat.{not-suc-le-zero}
 use native.Mathlib.Omega.{arith}
 use native.Mathlib.Decide.{ℕ-discrete}
 use borrow.Author.Count.{below-more}
-use Rattle.lists.specs.Rows.{FilledTo}
+use Rattle.lists.specs.Rows.{tabulated, FilledTo}
+use Rattle.lists.proofs.Rows.{tabulated-all}
+
+-- ---- a list
+
+pub record Filled {A : Type 0} (P Q : ℕ → A → Type 0) (d : A) (size i : ℕ) (l : List A) : Type 0 where
+  pub whole : length l ≡ size
+  pub filled : (j : ℕ) → j < i → P j (getD l j d)
+  pub rest : (j : ℕ) → i ≤ j → Q j (getD l j d)
+
+module _ {A : Type 0} (P Q : ℕ → A → Type 0) (d : A) {size : ℕ} {l : List A} where
+  pub filled-none : length l ≡ size → ((j : ℕ) → Q j (getD l j d)) → Filled P Q d size 0 l
+  filled-none e rest = record { whole = e; filled = λ j h. absurd (omega arith); rest = λ j h. rest j }
+
+  pub filled-more : {i : ℕ} → Filled P Q d size i l → i < size → (v : A) → P i v → Filled P Q d size (i + 1) (set l i v)
+  filled-more {i} r h v e =
+      record {
+        whole = length-set l i v ∙ r .whole;
+        filled =
+            below-more (λ (j : ℕ). P j (getD (set l i v) j d)) i
+            (λ j p. rw (getD-set-other l i j v d (omega arith)) (r .filled j p))
+            (rw (getD-set-same l i v d (omega (arith, r .whole))) e);
+        rest = λ j p. rw (getD-set-other l i j v d (omega arith)) (r .rest j (omega arith));
+      }
+
+-- what the others are is not said
+abbrev pub Anything : {A : Type 0} → ℕ → A → Type 0
+Anything j x = Unit {0}
+
+-- ---- all are written
+
+abbrev pub ValueOf : {A : Type 0} → (ℕ → A) → ℕ → A → Type 0
+ValueOf f j x = x ≡ f j
+
+module _ {A : Type 0} (d : A) where
+  pub filled-tabulated :
+      (f : ℕ → A) {size i : ℕ} {l : List A} → Filled (ValueOf f) Anything d size i l → size ≤ i → l ≡ tabulated size f
+  filled-tabulated f {size} {i} {l} r h = sym (tabulated-all size f l d (r .whole) (λ j p. sym (r .filled j (omega arith))))
+
+  -- of a list that is changed in place: what an element becomes, and that it is as it was
+  abbrev pub Changed : (A → A) → List A → ℕ → A → Type 0
+  Changed f l j x = x ≡ f (getD l j d)
+
+  abbrev pub Unchanged : List A → ℕ → A → Type 0
+  Unchanged l j x = x ≡ getD l j d
+
+  map-by : (f : A → A) (l now : List A) → length now ≡ length l → ((j : ℕ) → j < length l → getD now j d ≡ f (getD l j d)) → now ≡ map f l
+  map-by f [] [] e h = refl
+  map-by f [] (y ∷ now) e h = absurd (omega arith)
+  map-by f (x ∷ l) [] e h = absurd (omega arith)
+  map-by f (x ∷ l) (y ∷ now) e h =
+      ap₂ _∷_ (h zero (omega arith)) (map-by f l now (omega arith) (λ j p. h (suc j) (omega arith)))
+
+  pub filled-map :
+      (f : A → A) (l : List A) {size i : ℕ} {now : List A} → length l ≡ size → Filled (Changed f l) (Unchanged l) d size i now →
+      size ≤ i → now ≡ map f l
+  filled-map f l {size} {i} {now} e r h = map-by f l now (r .whole ∙ sym e) (λ j p. r .filled j (omega arith))
+
+-- ---- a row of numbers
 
 pub record Filling {A : Type 0} (f : A → ℕ) (d : A) (l : List A) (size i : ℕ) (ks : List ℕ) : Type 0 where
   pub whole : length ks ≡ size
   pub filled : FilledTo f d l i ks
 
 module _ {A : Type 0} (f : A → ℕ) (d : A) (l : List A) where
+  abbrev Number : ℕ → ℕ → Type 0
+  Number j v = v ≡ f (getD l j d)
+
+  abbrev Row : ℕ → ℕ → List ℕ → Type 0
+  Row size i ks = Filled Number Anything 0 size i ks
+
+  filling : {size i : ℕ} {ks : List ℕ} → Row size i ks → Filling f d l size i ks
+  filling r = record { whole = r .whole; filled = r .filled }
+
   pub filling-none : (size : ℕ) → Filling f d l size 0 (replicate size 0)
-  filling-none size = record { whole = length-replicate size 0; filled = λ j h. absurd (not-suc-le-zero h) }
+  filling-none size = filling (filled-none Number Anything 0 (length-replicate size 0) (λ j. tt))
 
   pub filling-more :
       {size i : ℕ} {ks : List ℕ} → Filling f d l size i ks → i < size → (v : ℕ) → v ≡ f (getD l i d) →
       Filling f d l size (i + 1) (set ks i v)
   filling-more {size} {i} {ks} r h v e =
-      record {
-        whole = length-set ks i v ∙ r .whole;
-        filled =
-            below-more (λ (j : ℕ). getD (set ks i v) j 0 ≡ f (getD l j d)) i
-            (λ j p. getD-set-other ks i j v 0 (omega arith) ∙ r .filled j p)
-            (getD-set-same ks i v 0 (omega (arith, r .whole)) ∙ e);
-      }
+      let row : Row size i ks = record { whole = r .whole; filled = r .filled; rest = λ j p. tt } in
+      filling (filled-more Number Anything 0 row h v e)
 
   pub filled-written :
       (n : ℕ) (ks : List ℕ) → FilledTo f d l n ks → (i : ℕ) (x : A) (v : ℕ) → i < length l → i < length ks → v ≡ f x →

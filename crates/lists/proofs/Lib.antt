@@ -12,4 +12,3 @@ pub mod Turns
 pub mod Counts
 pub mod Sorting
 pub mod Rows
-pub mod Fronts

@@ -1,15 +1,17 @@
--- What is read after one element of a list is written, whatever the index read. Assumes nothing.
+-- What is read after one element of a list is written, whatever the index read; and runs of stores. Assumes nothing.
 --   read-set        a property of it: of the element written where that is read, else of the element that was there
 --   read-kept       the element written reads as the one before it: what is read stays, past the list's end too
 --   read-written    a choice by whether the place written is read, between what the two elements read
-use Prim.Native.Nat.{ℕ, _<_}
-use mathlib.Core.Path.{_≡_, refl}
+--   sets-append     two runs of stores, one right behind the other, are one run
+--   take-sets       a run of stores right behind a front makes the front longer
+use Prim.Native.Nat.{ℕ, suc, _+_, _<_, _≤_}
+use mathlib.Core.Path.{_≡_, refl, ap, _∙_}
 use mathlib.Core.Logic.{_↔_, _≢_}
-use mathlib.Core.List.{List}
+use mathlib.Core.List.{List, [], _∷_, _++_}
 use mathlib.Core.Bool.{cond}
 use lib.Dec.{eqb}
-use lib.ListN.{length, getD, set}
-use lib.Seq.{set-out, getD-set-same, getD-set-other}
+use lib.ListN.{length, getD, set, take, drop, length-append, length-take}
+use lib.Seq.{set-out, getD-set-same, getD-set-other, sets, sets-eq, take-at}
 use native.Mathlib.Omega.{arith}
 use native.Mathlib.Decide.{decLt, ℕ-discrete}
 use borrow.Author.Tests.{eq-eqb, ne-eqb}
@@ -38,3 +40,16 @@ module _ {A B : Type 0} (read : ℕ → A → B) (l : List A) (i j : ℕ) (a d :
       read-set (λ q. cond (eqb x y) v u ≡ read j q) l i j a d fits
       (λ e. rw (eq-eqb x y (place .1 e)) (new e))
       (λ h. rw (ne-eqb x y (λ e. h (place .0 e))) old)
+
+-- ---- runs of stores
+
+module _ {A : Type 0} where
+  pub sets-append :
+      (b : List A) (i j : ℕ) (xs ys : List A) → j ≡ i + length xs → sets (sets b i xs) j ys ≡ sets b i (xs ++ ys)
+  sets-append b i j [] ys e = ap (λ (k : ℕ). sets b k ys) (omega arith)
+  sets-append b i j (x ∷ xs) ys e = sets-append (set b i x) (suc i) j xs ys (omega arith)
+
+  pub take-sets : (l vs : List A) (i : ℕ) → i + length vs ≤ length l → take (i + length vs) (sets l i vs) ≡ take i l ++ vs
+  take-sets l vs i h =
+      let size : length (take i l ++ vs) ≡ i + length vs = simp (length-append, length-take) (omega arith) in
+      ap (take (i + length vs)) (sets-eq vs l i h) ∙ take-at (take i l ++ vs) (drop (i + length vs) l) (i + length vs) size

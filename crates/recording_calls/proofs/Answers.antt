@@ -23,7 +23,7 @@ use Rattle.model.specs.WellFormed.{sizesInRange}
 use Rattle.model.specs.Behaviours.{runBy, answersBy}
 use Rattle.model.specs.Commands.{execute, make, run}
 use Rattle.layout.specs.Bytes.{stateSize, stateBytes, answerSize, answerBytes}
-use Rattle.encoding.proofs.Answers.{answersFrom, answers-count, answers-more}
+use Rattle.layout.proofs.Answers.{answersFrom, answers-count, answers-more}
 use Rattle.recording.specs.declared.Reader.{Reader}
 use Rattle.recording.specs.declared.Report.{Report}
 use Rattle.recording.specs.Reading.{isGood, Reading, reading}

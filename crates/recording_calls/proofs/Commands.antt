@@ -16,7 +16,7 @@ use Rattle.lists.specs.Rows.{joined}
 use Rattle.lists.proofs.Bools.{and-in, and-l, and-r}
 use Rattle.model.specs.declared.Command.{Command}
 use Rattle.layout.specs.Bytes.{commandSize, commandBytes}
-use Rattle.encoding.proofs.Writing.{sets-append}
+use Rattle.lists.proofs.Writes.{sets-append}
 use Rattle.recording.specs.declared.Reader.{Reader}
 use Rattle.recording.specs.declared.Report.{Report}
 use Rattle.recording.specs.Reading.{isGood, Reading}

@@ -65,7 +65,7 @@ fn taken(s: Strobe) -> Decoded
     if !s.given {
         return Decoded::Unknown;
     }
-    encoding::command(s.number, s.target, s.level)
+    decoding::command(s.number, s.target, s.level)
 }
 
 // Reads on to the next command, and from the last word's end to the end of the text, which ends a stamp as well.
@@ -184,7 +184,7 @@ pub extern "C" fn psic_replay(
     ensures { λ r. ⌜ DoesReplay r (now (state .exit)) (now (answers .exit))
         (replayCall n m (now (text .entry)) (now (state .entry)) (now (answers .entry))) ⌝ }
 {
-    if state.len() != encoding::STATE_SIZE {
+    if state.len() != layout::STATE_SIZE {
         return no_room();
     }
     if answers.len() < 5 * room(text.len()) {

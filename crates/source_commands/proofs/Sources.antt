@@ -24,7 +24,7 @@ use Rattle.model.specs.Commands.{namesSource, sourceAfter, sourceRefusal, effec
 use Rattle.lists.proofs.Exact.{between-exact}
 use Rattle.lists.proofs.Bools.{passing, and-r, clash}
 use Rattle.lists.proofs.Writes.{read-set}
-use Rattle.checks.specs.Numbers.{sourceNumber}
+use Rattle.checks.specs.Refusals.{sourceRefusalBy}
 use Rattle.well_formed.proofs.Test.{wellFormed-out}
 use Rattle.settling.specs.declared.Reached.{Reached}
 use Rattle.settling.specs.Phases.{Delivering}
@@ -80,7 +80,7 @@ module _ {s : Controller} {id : SourceId} (h : Addressed s id) {taken : Bool} wh
 
 -- ---- the later checks
 
-number-by : (s : Controller) (i : ℕ) (a : SourceAction) → sourceNumber (s .n) (sourceAt s i) (claimed s i) a ≡ sourceRefusal s i a
+number-by : (s : Controller) (i : ℕ) (a : SourceAction) → sourceRefusalBy (s .n) (sourceAt s i) (claimed s i) a ≡ sourceRefusal s i a
 number-by s i (SetSourcePriority p) = refl
 number-by s i Mask = refl
 number-by s i Unmask = refl
@@ -89,7 +89,7 @@ number-by s i Redeliver = refl
 number-by s i Complete = refl
 
 pub number-is : (s : Controller) (id : SourceId) (a : SourceAction) {taken : Bool} → taken ≡ claimed s (indexOf id) →
-    {k : ℕ} → k ≡ sourceNumber (s .n) (sourceAt s (id .0 - 1)) taken a → k ≡ sourceRefusal s (indexOf id) a
+    {k : ℕ} → k ≡ sourceRefusalBy (s .n) (sourceAt s (id .0 - 1)) taken a → k ≡ sourceRefusal s (indexOf id) a
 number-is s id a {taken} is e =
     e ∙ rw (is, sub-one (id .0)) (number-by s (indexOf id) a)
 

@@ -2,6 +2,8 @@
 ghost use mathlib.Core.Path.{_≡_};
 ghost use Rattle.model.specs.Commands.{execute as executeOf};
 ghost use Rattle.source_commands.specs.Delivers.{delivers as deliversOf};
+use checks::numbers::BAD_SOURCE;
+use checks::numbers::MALFORMED;
 use model::Answer;
 use model::Command;
 use model::Controller;
@@ -26,10 +28,10 @@ pub fn on_source(s: Controller, id: SourceId, a: SourceAction) -> Answer
     ensures { λ r. ⌜ r ≡ executeOf s (Command.OnSource id a) ⌝ }
 {
     if !well_formed::well_formed(s) {
-        return records::refused(s, 1);
+        return records::refused(s, MALFORMED);
     }
     if !checks::names_source(s.n, id) {
-        return records::refused(s, 4);
+        return records::refused(s, BAD_SOURCE);
     }
     let at = id.0 as usize - 1;
     let r = s.sources[at];
@@ -38,7 +40,7 @@ pub fn on_source(s: Controller, id: SourceId, a: SourceAction) -> Answer
         let cores = s.cores;
         claimed = checks::is_claimed(r, cores, s.m as usize, id);
     }
-    let number = checks::source_number(s.n, r, claimed, a);
+    let number = checks::source_refusal(s.n, r, claimed, a);
     if number != 0 {
         return records::refused(s, number);
     }

@@ -19,7 +19,7 @@ use Rattle.model.specs.Commands.{effect, settled, refused, execute, run}
 use Rattle.model.specs.Ledger.{answersTo, paired, entries}
 use Rattle.layout.specs.Bytes.{wordAt, answerSize, answerBytes, entriesIn}
 use Rattle.lists.specs.Rows.{joined}
-use Rattle.encoding.proofs.Records.{word-back}
+use Rattle.layout.proofs.Records.{word-back}
 use Rattle.lists.proofs.Rows.{length-joined}
 use Rattle.model.specs.Settling.{settle}
 use Rattle.settling.proofs.Keeps.{kept-m, settling-leaves-bare}
@@ -27,7 +27,7 @@ use Rattle.effects.proofs.Accepted.{by-answer}
 use Rattle.effects.proofs.Effects.{effect-m}
 use Rattle.effects.proofs.Kept.{cycles-bounded}
 use Rattle.theorems.proofs.Refusals.{refused-unchanged}
-use Rattle.encoding.proofs.Answers.{answersFrom, answers-count}
+use Rattle.layout.proofs.Answers.{answersFrom, answers-count}
 
 pub answers-length : (s : Controller) (cs : List Command) → length (answersFrom s cs) ≡ answerSize * length cs
 answers-length s cs =

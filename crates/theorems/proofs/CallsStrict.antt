@@ -20,8 +20,8 @@ use Rattle.effects.proofs.Checked.{accepted}
 use Rattle.effects.proofs.Kept.{wellFormed-kept}
 use Rattle.theorems.proofs.Refusals.{at-most-eight}
 use Rattle.layout.specs.Statements.{Sized}
-use Rattle.encoding.proofs.RoundTrip.{state-read-back, state-encoded}
-use Rattle.encoding.proofs.Commands.{named, packed-read}
+use Rattle.layout.proofs.RoundTrip.{state-read-back, state-encoded}
+use Rattle.layout.proofs.Commands.{named, packed-read}
 use Rattle.layout.specs.CallStatements.{ExecuteTells, calling, afterCalls, toldByCalls, CallsStrict}
 use Rattle.theorems.proofs.RunStrict.{sized, run-wellFormed, fresh}
 

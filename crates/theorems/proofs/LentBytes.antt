@@ -16,11 +16,11 @@ use Rattle.model.specs.Commands.{execute, make}
 use Rattle.layout.specs.Commands.{commandOf}
 use Rattle.layout.specs.Bytes.{stateSize, stateBytes, stateFrom, isState, commandsIn, answerSize, numberIn, Call, makeCall, executedOn, executeCall, noCount, roomFor, fitsRun}
 use Rattle.layout.specs.Statements.{AreBytes}
-use Rattle.encoding.proofs.RoundTrip.{bytes-written-back}
+use Rattle.layout.proofs.RoundTrip.{bytes-written-back}
 use Rattle.layout.specs.CallStatements.{RefusedMakeKeeps, RefusedExecuteKeeps, RefusedRunKeeps, AllRefusedKeeps, RestKept, RunKeepsRest}
 use Rattle.exports.proofs.Commands.{commands-length}
 use Rattle.exports.proofs.Buffers.{room-enough}
-use Rattle.encoding.proofs.Answers.{answersFrom}
+use Rattle.layout.proofs.Answers.{answersFrom}
 use Rattle.exports.proofs.Calls.{run-by}
 use Rattle.theorems.proofs.AnswerBytes.{answers-length, written, refused-state, kept-refused}
 

@@ -11,7 +11,7 @@ use borrow.Author.Tests.{leb-true}
 use Rattle.lists.specs.Rows.{joined}
 use Rattle.lists.proofs.Bools.{and-l, and-r, Flag, on, off, flag}
 use Rattle.layout.specs.Bytes.{commandSize, commandBytes, commandsIn}
-use Rattle.encoding.proofs.Commands.{commands-read-back}
+use Rattle.layout.proofs.Commands.{commands-read-back}
 use Rattle.recording.specs.Reading.{reading, timesOf}
 use Rattle.recording.specs.Calls.{room, fitsRead, readCall}
 use Rattle.recording.specs.Statements.{TellsReading, ReadTells}

@@ -18,7 +18,7 @@ use Rattle.model.specs.Commands.{run}
 use Rattle.layout.specs.Bytes.{stateSize, stateBytes, answerSize, runCallOf}
 use Rattle.layout.specs.CallStatements.{Strict}
 use Rattle.well_formed.proofs.Clauses.{sizes-exact}
-use Rattle.encoding.proofs.Answers.{answersFrom, answers-count}
+use Rattle.layout.proofs.Answers.{answersFrom, answers-count}
 use Rattle.exports.proofs.Calls.{ranOver}
 use Rattle.recording.specs.Reading.{reading}
 use Rattle.recording.specs.Replay.{replayed}

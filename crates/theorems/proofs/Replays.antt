@@ -9,7 +9,7 @@ use Rattle.model.specs.WellFormed.{sizesInRange}
 use Rattle.model.specs.Statements.{InRange}
 use Rattle.lists.proofs.Exact.{refuted-exact}
 use Rattle.well_formed.proofs.Clauses.{sizes-exact}
-use Rattle.encoding.proofs.Answers.{answers-count}
+use Rattle.layout.proofs.Answers.{answers-count}
 use Rattle.recording.specs.Reading.{reading}
 use Rattle.recording.specs.Replay.{Replay, replayFrom, replayed}
 use Rattle.recording.specs.Statements.{ReplayExact}

@@ -21,8 +21,8 @@ use Rattle.well_formed.proofs.Reset.{reset-wellFormed, makes-exactly}
 use Rattle.effects.proofs.Kept.{wellFormed-kept}
 use Rattle.theorems.proofs.DemandThree.{reset-strict}
 use Rattle.layout.specs.Statements.{Sized}
-use Rattle.encoding.proofs.RoundTrip.{state-read-back, state-encoded}
-use Rattle.encoding.proofs.Commands.{commands-read-back}
+use Rattle.layout.proofs.RoundTrip.{state-read-back, state-encoded}
+use Rattle.layout.proofs.Commands.{commands-read-back}
 use Rattle.layout.specs.CallStatements.{Strict, ranFresh, RunStrict, ListStrict}
 use Rattle.exports.proofs.Commands.{commands-length}
 use Rattle.exports.proofs.Buffers.{room-enough}

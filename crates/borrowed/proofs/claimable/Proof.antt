@@ -1,57 +1,54 @@
 -- `borrowed::claimable` meets its contract: each test that fails settles the definition's. Assumes nothing.
-use native.Mathlib.Omega.{arith}
-use Rattle.borrowed.proofs.Claims.{id-low, id-high, priority-low, priority-high, not-above, clean-only}
+use Rattle.lists.proofs.Bools.{failing, passing}
+use Rattle.borrowed.proofs.Claims.{no-id, no-priority, not-above, clean-decides}
 use borrow.Author.Needs.{needs}
 use Rattle.borrowed.proofs.claimable.Statement.{statement}
 use Rattle.borrowed.proofs.claimable.Tie as tie
 
-returns : tie.Need-returns
-returns c = id-low (c .before .before .args .c) (c .if1 .taken)
+cast-names-source : tie.Need-cast-names-source
+cast-names-source c = search needs
 
-cast-if2 : tie.Need-cast-if2
-cast-if2 c = search needs
+names-source-requires : tie.Need-names-source-requires
+names-source-requires c κs = search needs
+
+returns : tie.Need-returns
+returns c = no-id (c .before .before .before .args .c) (failing (c .before .names-source .ensures) (c .if1 .taken))
+
+cast-is-source-priority : tie.Need-cast-is-source-priority
+cast-is-source-priority c = search needs
+
+is-source-priority-requires : tie.Need-is-source-priority-requires
+is-source-priority-requires c κs = search needs
 
 returns-2 : tie.Need-returns-2
-returns-2 c = id-high (c .before .before .before .args .c) (omega arith) (c .if2 .taken)
+returns-2 c =
+    let named = c .before .before in
+    no-priority (named .before .before .before .args .c) (passing (named .before .names-source .ensures) (named .if1 .left))
+    (failing (c .before .is-source-priority .ensures) (c .if2 .taken))
 
 returns-3 : tie.Need-returns-3
-returns-3 c = priority-low (c .before .before .before .before .before .args .c) (omega arith) (omega arith) (c .if3 .taken)
-
-cast-top-priority : tie.Need-cast-top-priority
-cast-top-priority c = search needs
-
-top-priority-requires : tie.Need-top-priority-requires
-top-priority-requires c κs = search needs
-
-cast-if4 : tie.Need-cast-if4
-cast-if4 c = search needs
+returns-3 c =
+    let ranged = c .before .before .before in
+    let named = ranged .before .before in
+    not-above (named .before .before .before .args .c) (passing (named .before .names-source .ensures) (named .if1 .left))
+    (passing (ranged .before .is-source-priority .ensures) (ranged .if2 .left)) (c .if3 .taken)
 
 returns-4 : tie.Need-returns-4
 returns-4 c =
-    priority-high (c .before .before .before .before .before .before .before .before .args .c) (omega arith) (omega arith) (omega arith)
-    (omega (arith, c .if4 .taken, c .before .before .top-priority .ensures))
-
-returns-5 : tie.Need-returns-5
-returns-5 c =
-    not-above (c .before .before .before .before .before .before .before .before .before .before .before .args .c) (omega arith) (omega arith) (omega arith)
-    (omega (arith, c .before .before .before .if4 .left, c .before .before .before .before .before .top-priority .ensures)) (c .if5 .taken)
-
-returns-6 : tie.Need-returns-6
-returns-6 c =
-    clean-only (c .before .before .before .before .before .before .before .before .before .before .before .before .args .c) (omega arith) (omega arith) (omega arith)
-    (omega (arith, c .before .before .before .before .if4 .left, c .before .before .before .before .before .before .top-priority .ensures)) (c .before .if5 .left)
+    let ranged = c .before .before .before .before in
+    let named = ranged .before .before in
+    clean-decides (named .before .before .before .args .c) (passing (named .before .names-source .ensures) (named .if1 .left))
+    (passing (ranged .before .is-source-priority .ensures) (ranged .if2 .left)) (c .before .if3 .left)
 
 pub claimable-spec : {M : Type 1} → statement M
 claimable-spec =
     tie.close
     (tie.spec
+    cast-names-source
+    names-source-requires
     returns
-    cast-if2
+    cast-is-source-priority
+    is-source-priority-requires
     returns-2
     returns-3
-    cast-top-priority
-    top-priority-requires
-    cast-if4
-    returns-4
-    returns-5
-    returns-6)
+    returns-4)

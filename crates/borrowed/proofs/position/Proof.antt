@@ -1,4 +1,5 @@
--- `borrowed::position` meets its contract: the highest key stands where the highest candidate does, and is 0 if there is none. Assumes nothing.
+-- `borrowed::position` meets its contract: the highest key stands where the highest candidate does, and is 0 if there is none.
+-- Assumes nothing.
 use native.Mathlib.Omega.{arith}
 use Rattle.borrowed.proofs.Searches.{empty-list, inside, no-candidate, a-candidate}
 use borrow.Author.Needs.{needs}

@@ -38,7 +38,8 @@ returns c =
     let now = c .before .before .before in
     let a = now .before .before .args in
     let k = now .before .loop .k in
-    sym (boxed-in (a .t1) (a .m) (a .id .0) k (now .loop-test .taken) (holds-in (a .id .0) (getD (a .t1) k noCore) (c .before .before .if1 .taken) (c .if2 .taken)))
+    let held = holds-in (a .id .0) (getD (a .t1) k noCore) (c .before .before .if1 .taken) (c .if2 .taken) in
+    sym (boxed-in (a .t1) (a .m) (a .id .0) k (now .loop-test .taken) held)
 
 add-k : tie.Need-add-k Inv-loop μ-loop
 add-k c = omega arith
@@ -51,7 +52,9 @@ loop-again c =
     let a = c .before .before .before .args in
     let k = c .before .before .loop .k in
     let core = getD (a .t1) k noCore in
-    (omega arith, unboxed-more (a .t1) k (a .id .0) (c .before .before .loop .inv .1) (⊎-elim (λ w. holds-other core (a .id .0) (w .0 .taken) (w .2 .left)) (λ w. holds-unfilled core (a .id .0) (w .left)) (c .if1 .came)))
+    let unheld =
+    ⊎-elim (λ w. holds-other core (a .id .0) (w .0 .taken) (w .2 .left)) (λ w. holds-unfilled core (a .id .0) (w .left)) (c .if1 .came) in
+    (omega arith, unboxed-more (a .t1) k (a .id .0) (c .before .before .loop .inv .1) unheld)
 
 returns-2 : tie.Need-returns-2 Inv-loop μ-loop
 returns-2 c =

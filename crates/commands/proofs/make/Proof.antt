@@ -16,7 +16,9 @@ refused-requires c κs = search needs
 
 returns : tie.Need-returns
 unfolding make
-returns c = rw (c .refused .ensures, c .before .reset .ensures, failing (c .before .before .before .sizes-in-range .ensures) (c .before .before .if1 .taken))
+returns c =
+    let tested = c .before .before in
+    rw (c .refused .ensures, c .before .reset .ensures, failing (tested .before .sizes-in-range .ensures) (tested .if1 .taken))
 
 reset-requires-2 : tie.Need-reset-requires-2
 reset-requires-2 c κs = search needs
@@ -26,7 +28,9 @@ accepted-requires c κs = search needs
 
 returns-2 : tie.Need-returns-2
 unfolding make
-returns-2 c = rw (c .accepted .ensures, c .before .reset2 .ensures, passing (c .before .before .before .sizes-in-range .ensures) (c .before .before .if1 .left))
+returns-2 c =
+    let tested = c .before .before in
+    rw (c .accepted .ensures, c .before .reset2 .ensures, passing (tested .before .sizes-in-range .ensures) (tested .if1 .left))
 
 pub make-spec : {M : Type 1} → statement M
 make-spec =

@@ -57,14 +57,17 @@ mul-c c = search needs
 element-copy-out-c : tie.Need-element-copy-out-c
 element-copy-out-c c = (here (c .before)) .in-array
 
-core-number-requires : tie.Need-core-number-requires
-core-number-requires c κs = search needs
+core-refusal-requires : tie.Need-core-refusal-requires
+core-refusal-requires c κs = search needs
 
 -- the number of the later checks
-number-found : (c : tie.After-core-number) → c .core-number .result ≡ coreRefusal (c .before .before .before .before .before .before .before .args .t1) (c .before .before .before .before .before .before .before .args .core .0) (c .before .before .before .before .before .before .before .args .a)
+number-found :
+    (c : tie.After-core-refusal) →
+    let a = c .before .before .before .before .before .before .before .args in
+    c .core-refusal .result ≡ coreRefusal (a .t1) (a .core .0) (a .a)
 number-found c =
     let a = c .before .before .before .before .before .before .before .args in
-    c .core-number .ensures ∙ number-is (a .t1) (a .core .0) (a .a)
+    c .core-refusal .ensures ∙ number-is (a .t1) (a .core .0) (a .a)
 
 refused-requires-3 : tie.Need-refused-requires-3
 refused-requires-3 c κs = search needs
@@ -75,7 +78,7 @@ returns-3 c =
     let a = found .before .before .before .before .before .before .before .args in
     let h : AddressedCore (a .t1) (a .core) = here (found .before .before .before) in
     c .refused3 .ensures ∙
-    at-later (a .t1) (OnCore (a .core) (a .a)) (h .sound) (h .named) (found .core-number .result) (number-found found)
+    at-later (a .t1) (OnCore (a .core) (a .a)) (h .sound) (h .named) (found .core-refusal .result) (number-found found)
     (c .before .if3 .taken)
 
 enum-known-a : tie.Need-enum-known-a
@@ -94,17 +97,24 @@ all-soiled-requires : tie.Need-all-soiled-requires
 all-soiled-requires c κs = search needs
 
 -- the command's own part begins: no check refuses it
-passed : (c : tie.Else3) → coreRefusal (c .before .before .before .before .before .before .before .before .args .t1) (c .before .before .before .before .before .before .before .before .args .core .0) (c .before .before .before .before .before .before .before .before .args .a) ≡ 0
+passed :
+    (c : tie.Else3) →
+    let a = c .before .before .before .before .before .before .before .before .args in
+    coreRefusal (a .t1) (a .core .0) (a .a) ≡ 0
 passed c = sym (number-found (c .before)) ∙ c .if3 .left
 
-addressed-here : (c : tie.Else3) → AddressedCore (c .before .before .before .before .before .before .before .before .args .t1) (c .before .before .before .before .before .before .before .before .args .core)
+addressed-here :
+    (c : tie.Else3) →
+    let a = c .before .before .before .before .before .before .before .before .args in
+    AddressedCore (a .t1) (a .core)
 addressed-here c = here (c .before .before .before .before)
 
 retract-all-requires : tie.Need-retract-all-requires
 retract-all-requires c κs =
-    set-begins (c .before .before .before .before .a .given .1) (addressed-here (c .before .before .before .before .before .before))
-    (passed (c .before .before .before .before .before .before))
-    (c .all-soiled .ensures ∙ ap (λ (d : Core). map soiled (set (c .before .before .before .before .before .before .before .before .before .before .before .before .before .before .args .t1 .cores) (c .before .before .before .before .before .before .before .before .before .before .before .before .before .before .args .core .0) d)) (c .before .core-with .ensures))
+    let free = c .before .before .before .before .before .before in
+    let a = free .before .before .before .before .before .before .before .before .args in
+    set-begins (c .before .before .before .before .a .given .1) (addressed-here free) (passed free)
+    (c .all-soiled .ensures ∙ ap (λ (d : Core). map soiled (set (a .t1 .cores) (a .core .0) d)) (c .before .core-with .ensures))
 
 deliver-all-requires : tie.Need-deliver-all-requires
 deliver-all-requires c κs = search needs
@@ -154,7 +164,7 @@ on-core-spec =
     cast-k
     mul-c
     element-copy-out-c
-    core-number-requires
+    core-refusal-requires
     refused-requires-3
     returns-3
     enum-known-a

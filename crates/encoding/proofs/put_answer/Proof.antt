@@ -22,7 +22,9 @@ put-word-requires-2 : tie.Need-put-word-requires-2
 put-word-requires-2 c κs = omega (arith, simp length-set at (c .before .before .before .put-word .kept .0))
 
 same-length : tie.Need-same-length
-same-length c = omega (arith, c .before .before .put-word2 .kept .0, simp length-set at (c .before .before .before .before .before .before .put-word .kept .0))
+same-length c =
+    let id = c .before .before .before .before .before .before .put-word in
+    omega (arith, c .before .before .put-word2 .kept .0, simp length-set at (id .kept .0))
 
 returns : tie.Need-returns
 returns c =

@@ -40,15 +40,20 @@ put-word-requires-3 : tie.Need-put-word-requires-3
 put-word-requires-3 c κs = omega (arith, simp length-set at (c .before .before .before .put-word2 .kept .0))
 
 same-length : tie.Need-same-length
-same-length c = omega (arith, c .before .before .put-word3 .kept .0, simp length-set at (c .before .before .before .before .before .before .put-word2 .kept .0), c .before .before .before .before .before .before .before .before .before .before .before .before .put-word .kept .0)
+same-length c =
+    let second = c .before .before .before .before .before .before in
+    let first = second .before .before .before .before .before .before in
+    omega (arith, c .before .before .put-word3 .kept .0, simp length-set at (second .put-word2 .kept .0), first .put-word .kept .0)
 
 returns : tie.Need-returns
 returns c =
-    let a = c .before .before .before .before .before .before .before .before .before .before .before .before .before .before .before .args in
-    let word-1 = c .before .before .before .before .before .before .before .before .before .before .before .before .put-word in
-    let filled = c .before .before .before .before .before .before .before .before .before .flag-byte in
-    let dirty = c .before .before .before .before .before .before .before .before .flag-byte2 in
-    let word-2 = c .before .before .before .before .before .before .put-word2 in
+    let second = c .before .before .before .before .before .before in
+    let first = second .before .before .before .before .before .before in
+    let a = first .before .before .before .args in
+    let word-1 = first .put-word in
+    let filled = second .before .before .before .flag-byte in
+    let dirty = second .before .before .flag-byte2 in
+    let word-2 = second .put-word2 in
     let word-3 = c .before .before .put-word3 in
     core-written (a .b .now) (a .i) (a .c) (word-1 .last .0) (word-2 .last .0) (word-3 .last .0) (filled .result) (dirty .result)
     (word-1 .ensures) (filled .ensures) (dirty .ensures) (word-2 .ensures) (word-3 .ensures)

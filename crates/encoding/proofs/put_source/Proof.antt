@@ -43,7 +43,9 @@ put-word-requires-2 : tie.Need-put-word-requires-2
 put-word-requires-2 c κs = simp length-set (omega arith)
 
 same-length : tie.Need-same-length
-same-length c = omega (arith, simp length-set at (c .before .before .put-word2 .kept .0), c .before .before .before .before .before .before .before .before .before .put-word .kept .0)
+same-length c =
+    let first = c .before .before .before .before .before .before .before .before .before in
+    omega (arith, simp length-set at (c .before .before .put-word2 .kept .0), first .put-word .kept .0)
 
 returns : tie.Need-returns
 returns c =

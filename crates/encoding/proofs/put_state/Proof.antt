@@ -64,9 +64,10 @@ loop-less c = omega arith
 
 loop-again : tie.Need-loop-again Inv-loop μ-loop Inv-loop2 μ-loop2
 loop-again c =
-    let at = c .before .before .before .before .before .before .loop in
+    let turn = c .before .before .before .before .before .before in
+    let at = turn .loop in
     let put = c .before .before .put-source in
-    source-more (c .before .before .before .before .before .before .before .before .before .before .before .before .before .before .before .before .args .t2)
+    source-more (turn .before .before .before .before .before .before .before .before .before .before .args .t2)
     (at .b) (put .last .0) (at .written) (at .inv) (omega arith) (put .ensures)
 
 loop2-holds : tie.Need-loop2-holds Inv-loop μ-loop Inv-loop2 μ-loop2
@@ -95,10 +96,11 @@ loop2-less c = omega arith
 
 loop2-again : tie.Need-loop2-again Inv-loop μ-loop Inv-loop2 μ-loop2
 loop2-again c =
-    let at = c .before .before .before .before .before .before .loop2 in
+    let turn = c .before .before .before .before .before .before in
+    let at = turn .loop2 in
     let put = c .before .before .put-core in
-    core-more (c .before .before .before .before .before .before .before .before .before .before .before .before .before .before .before .before .before .before .args .t2)
-    (at .b) (put .last .0) (c .before .before .before .before .before .before .before .before .loop .written) (at .cores-written) (at .inv)
+    core-more (turn .before .before .before .before .before .before .before .before .before .before .before .before .args .t2)
+    (at .b) (put .last .0) (turn .before .before .loop .written) (at .cores-written) (at .inv)
     (omega arith) (omega arith) (put .ensures)
 
 same-length : tie.Need-same-length Inv-loop μ-loop Inv-loop2 μ-loop2

@@ -1,4 +1,4 @@
--- `exports::psic_run` meets its contract. The loop's invariant is `Taken`: the commands before i are taken, and what is left of the list
+-- `exports::psic_run` meets its contract. The loop's invariant is `RunTo`: the commands before i are taken, and what is left of the list
 -- ends as the whole does from the start. The measure is what is left of the length. Assumes nothing.
 use Prim.Native.Nat.{_-_}
 use lib.ListN.{length}
@@ -14,12 +14,12 @@ use Rattle.layout.specs.Bytes.{isState}
 use Rattle.exports.proofs.Commands.{command-read, commands-there, commands-end}
 use Rattle.exports.proofs.Buffers.{state-size, no-state, not-whole, no-room}
 use Rattle.exports.proofs.Calls.{run-refused}
-use Rattle.exports.proofs.Running.{left, Taken, taken-none, more-left, taken-more, taken-all}
+use Rattle.exports.proofs.Running.{left, RunTo, run-none, more-left, run-more, run-all}
 use Rattle.exports.proofs.psic_run.Statement.{statement}
 use Rattle.exports.proofs.psic_run.Tie as tie
 
 abbrev Inv-loop : tie.InvT-loop
-Inv-loop state list answers₀ s₀ i₀ answers s i = Taken list answers₀ s₀ answers s i
+Inv-loop state list answers₀ s₀ i₀ answers s i = RunTo list answers₀ s₀ answers s i
 
 abbrev μ-loop : tie.MeasureT-loop
 μ-loop state list answers₀ s₀ i₀ answers s i = length list - i
@@ -79,7 +79,7 @@ loop-holds : tie.Need-loop-holds Inv-loop μ-loop
 loop-holds c =
     let a = c .before .before .before .before .before .before .before .before .before .before .args in
     let tested = c .before .before .before .before .before in
-    taken-none (a .list .now) (a .answers .now) (c .state-from .result) (tested .before .if1 .left) (tested .if2 .left)
+    run-none (a .list .now) (a .answers .now) (c .state-from .result) (tested .before .if1 .left) (tested .if2 .left)
 
 shared-slice-read-command : tie.Need-shared-slice-read-command Inv-loop μ-loop
 shared-slice-read-command c = omega arith
@@ -138,7 +138,7 @@ loop-again c =
     let l = at .loop in
     let read = command-read (a .list .now) (l .i) (target .result) (priority .result) (called .command .result)
     (target .ensures) (priority .ensures) (called .command .ensures) in
-    taken-more (a .list .now) (a .answers .now) (at .before .state-from .result) (l .answers) (put .last .0) (l .s) (l .i)
+    run-more (a .list .now) (a .answers .now) (at .before .state-from .result) (l .answers) (put .last .0) (l .s) (l .i)
     _ (run .execute .result) (l .inv) (turn .loop-test .taken) (read ∙ known .read .given .1) (run .execute .ensures) (put .ensures)
 
 put-state-requires : tie.Need-put-state-requires Inv-loop μ-loop
@@ -160,7 +160,7 @@ returns-4 c =
     let given = end .before .before in
     let tested = given .before .before in
     let a = tested .before .before .before .before .before .before .before .before .args in
-    taken-all (a .state .now) (a .list .now) (a .answers .now) (given .state-from .result) (l .answers) (put .last .0) (l .s) (l .i)
+    run-all (a .state .now) (a .list .now) (a .answers .now) (given .state-from .result) (l .answers) (put .last .0) (l .s) (l .i)
     (readable tested) (given .state-from .ensures) (l .inv) (none-left end) (put .ensures)
 
 pub psic-run-spec : {M : Type 1} → statement M

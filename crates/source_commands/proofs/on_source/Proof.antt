@@ -63,19 +63,25 @@ is-claimed-requires : tie.Need-is-claimed-requires
 is-claimed-requires c κs = (here (c .before .before .before .before)) .cores-in
 
 -- whether the request is claimed, where the two ways meet
-taken-claimed : (c : tie.Joined3) → c .if3 .claimed ≡ claimed (c .before .before .before .before .before .before .before .args .t1) (indexOf (c .before .before .before .before .before .before .before .args .id))
+taken-claimed :
+    (c : tie.Joined3) →
+    let a = c .before .before .before .before .before .before .before .args in
+    c .if3 .claimed ≡ claimed (a .t1) (indexOf (a .id))
 taken-claimed c =
     let h = here (c .before .before .before) in
     ⊎-elim (λ w. claimed-if h (w .3 ∙ w .2 .ensures)) (λ w. unclaimed h (w .0 .left) (w .1)) (c .if3 .came)
 
-source-number-requires : tie.Need-source-number-requires
-source-number-requires c κs = search needs
+source-refusal-requires : tie.Need-source-refusal-requires
+source-refusal-requires c κs = search needs
 
 -- the number of the later checks
-number-found : (c : tie.After-source-number) → c .source-number .result ≡ sourceRefusal (c .before .before .before .before .before .before .before .before .args .t1) (indexOf (c .before .before .before .before .before .before .before .before .args .id)) (c .before .before .before .before .before .before .before .before .args .a)
+number-found :
+    (c : tie.After-source-refusal) →
+    let a = c .before .before .before .before .before .before .before .before .args in
+    c .source-refusal .result ≡ sourceRefusal (a .t1) (indexOf (a .id)) (a .a)
 number-found c =
     let a = c .before .before .before .before .before .before .before .before .args in
-    number-is (a .t1) (a .id) (a .a) (taken-claimed (c .before)) (c .source-number .ensures)
+    number-is (a .t1) (a .id) (a .a) (taken-claimed (c .before)) (c .source-refusal .ensures)
 
 refused-requires-3 : tie.Need-refused-requires-3
 refused-requires-3 c κs = search needs
@@ -86,7 +92,7 @@ returns-3 c =
     let a = found .before .before .before .before .before .before .before .before .args in
     let h : Addressed (a .t1) (a .id) = here (found .before .before .before .before) in
     c .refused3 .ensures ∙
-    at-later (a .t1) (OnSource (a .id) (a .a)) (h .sound) (h .named) (found .source-number .result) (number-found found)
+    at-later (a .t1) (OnSource (a .id) (a .a)) (h .sound) (h .named) (found .source-refusal .result) (number-found found)
     (c .before .if4 .taken)
 
 source-after-requires : tie.Need-source-after-requires
@@ -122,7 +128,8 @@ returns-4 c =
     c .accepted .ensures ∙
     ⊎-elim
     (λ w. ap₂ (λ (x : Controller) (y : ℕ). answer x 0 0 y) (w .3) (w .4) ∙ after-deliveries (a .a) h passes new (w .1 .ensures))
-    (λ w. ap₂ (λ (x : Controller) (y : ℕ). answer x 0 0 y) (w .1) (w .2) ∙ at-rest (a .a) h passes new (sym (c .before .before .delivers .ensures) ∙ w .0 .left))
+    (λ w. ap₂ (λ (x : Controller) (y : ℕ). answer x 0 0 y) (w .1) (w .2) ∙
+    at-rest (a .a) h passes new (sym (c .before .before .delivers .ensures) ∙ w .0 .left))
     (c .before .if5 .came)
 
 pub on-source-spec : {M : Type 1} → statement M
@@ -141,7 +148,7 @@ on-source-spec =
     element-copy-out-r
     cast-is-claimed
     is-claimed-requires
-    source-number-requires
+    source-refusal-requires
     refused-requires-3
     returns-3
     source-after-requires

@@ -1,0 +1,59 @@
+-- A list of commands there and back, and an answer in one number. Assumes nothing.
+use Prim.Native.Nat.{_<_}
+use mathlib.Core.Path.{_≡_, refl}
+use mathlib.Core.List.{List, [], _∷_, List·Memᴰ, List·Memᴰ·head, List·Memᴰ·tail}
+use native.Mathlib.Omega.{arith}
+use Rattle.model.specs.declared.Command.{Command}
+use Rattle.model.specs.declared.Command.the-variants.{OnSource, OnCore}
+use Rattle.model.specs.declared.SourceAction.the-variants.{SetSourcePriority, Mask, Unmask, Trigger, Redeliver, Complete}
+use Rattle.model.specs.declared.CoreAction.the-variants.{SetCorePriority, Claim}
+use Rattle.model.specs.declared.Decoded.the-variants.{Known}
+use Rattle.layout.specs.Commands.{commandOf, numberOf, targetOf, levelOf}
+use Rattle.lists.specs.Rows.{joined}
+use Rattle.layout.specs.Bytes.{commandSize, commandBytes, commandsIn}
+use Rattle.layout.specs.Statements.{CommandFits, CommandsReadBack, PackedRead}
+use Rattle.layout.proofs.Records.{word-back}
+use Rattle.lists.proofs.Rows.{length-joined}
+use Rattle.layout.proofs.Octets.{Octets, none, next, are-bytes, octets-append, octets-word}
+
+number-small : (c : Command) → numberOf c < 8
+number-small (OnSource id (SetSourcePriority p)) = omega arith
+number-small (OnSource id Mask) = omega arith
+number-small (OnSource id Unmask) = omega arith
+number-small (OnCore k (SetCorePriority p)) = omega arith
+number-small (OnSource id Trigger) = omega arith
+number-small (OnCore k Claim) = omega arith
+number-small (OnSource id Redeliver) = omega arith
+number-small (OnSource id Complete) = omega arith
+
+-- a command is named by its numbers
+pub named : (c : Command) → commandOf (numberOf c) (targetOf c) (levelOf c) ≡ Known c
+unfolding commandOf
+named (OnSource id (SetSourcePriority p)) = refl
+named (OnSource id Mask) = refl
+named (OnSource id Unmask) = refl
+named (OnCore k (SetCorePriority p)) = refl
+named (OnSource id Trigger) = refl
+named (OnCore k Claim) = refl
+named (OnSource id Redeliver) = refl
+named (OnSource id Complete) = refl
+
+read-back : (cs : List Command) → commandsIn (joined commandBytes cs) ≡ cs
+unfolding joined commandsIn
+read-back [] = refl
+read-back (c ∷ cs) = rw (word-back (targetOf c), word-back (levelOf c), named c, read-back cs)
+
+octets-command : (c : Command) → CommandFits c → Octets (commandBytes c)
+octets-command c f = next {x = numberOf c} (omega (arith, number-small c)) (octets-word (f .target) (octets-word (f .level) none))
+
+octets-commands : (cs : List Command) → ((c : Command) → List·Memᴰ c cs → CommandFits c) → Octets (joined commandBytes cs)
+unfolding joined
+octets-commands [] fit = none
+octets-commands (c ∷ cs) fit =
+    octets-append (octets-command c (fit c (List·Memᴰ·head refl))) (octets-commands cs (λ d e. fit d (List·Memᴰ·tail e)))
+
+pub commands-read-back : CommandsReadBack
+commands-read-back cs = (read-back cs, length-joined commandBytes commandSize (λ c. refl) cs, λ fit. are-bytes (octets-commands cs fit))
+
+pub packed-read : PackedRead
+packed-read a h k = omega arith
