@@ -13,7 +13,7 @@ use mathlib.Core.Bool.{Bool, true, false, not, _&&_, _||_, and-false}
 use lib.ListN.{length, getD}
 use lib.Dec.{ltb, leb, eqb}
 use native.Mathlib.Omega.{arith}
-use borrow.Author.Tests.{lt-ltb, lt-leb, ltb-true, ltb-false, eq-eqb, ne-eqb, eqb-true, not-false}
+use borrow.Author.Tests.{lt-ltb, lt-leb, ltb-true, eq-eqb, ne-eqb, eqb-true, not-false}
 use Rattle.lists.proofs.Bools.{and-in, and-l, and-r, or-off, clash, Flag, on, off, flag}
 use Rattle.recording.specs.declared.Place.{Place}
 use Rattle.recording.specs.declared.Place.the-variants.{Body, BodyCode}
@@ -32,7 +32,7 @@ use Rattle.recording.specs.Stamps.{isReadable, strobeOf, endStamp, endOpenStamp
 use Rattle.recording.specs.Reading.{readWord, readAt, readBody, readChange, isVector, vectorSignal, readVectorCode, isTime, timeOf, openStamp, andThen, readTime}
 use Rattle.vcd_words.specs.declared.Number.{Number}
 use Rattle.vcd_words.specs.Partial.{numberWith, moreBits}
-use Rattle.vcd_words.proofs.Bytes.{above-separators, run-more, run-separator, run-end}
+use Rattle.vcd_words.proofs.Bytes.{above-separators, run-more}
 use Rattle.vcd_words.proofs.Sums.{bitsOf, bits-sum}
 use Rattle.vcd_reader.specs.declared.Bits.{Bits}
 use Rattle.vcd_reader.specs.declared.Coded.{Coded}
@@ -42,8 +42,8 @@ use Rattle.vcd_reader.specs.declared.Timed.{Timed}
 use Rattle.vcd_reader.specs.Advances.{Follows}
 use Rattle.vcd_reader.specs.Runs.{wordFrom, timedWith, Ones, CodeThere, TimeThere, Skips}
 use Rattle.vcd_reader.specs.Changes.{givenWith, knownVector, placedWith, withVariables, changedTo, CodedVector, VectorThere, Places, QuietTime, withLevel, takenAt, Takes}
-use Rattle.vcd_reader.proofs.Follows.{follows-then, follows-passes, follows-word, word-within}
-use Rattle.vcd_reader.proofs.Reaching.{isKnown, known-range, no-time}
+use Rattle.vcd_reader.proofs.Follows.{follows-then, follows-passes, follows-skips, follows-word, word-within}
+use Rattle.vcd_reader.proofs.Reaching.{word-inside, word-starts, isKnown, known-range, no-time}
 
 -- ---- the variable of a code
 
@@ -133,25 +133,10 @@ module _ (u : List ℕ) (n : ℕ) (e : moreBits (numberWith true true false 0) u
   unfolding vectorOf valueOf
   vector-known = rw (ap (λ (x : Number). x .known) full, ap (λ (x : Number). x .value) full)
 
--- a word that is a code begins at its offset
-module _ (t : List ℕ) (i : ℕ) (h : 0 < codeOf (wordFrom t i)) where
-  no-word : wordFrom t i ≡ [] → ⊥
-  unfolding codeOf
-  no-word e = let none : codeOf (wordFrom t i) ≡ 0 = ap codeOf e in omega arith
-
-  code-inside : i < length t
-  code-inside = go (flag (ltb i (length t)))
-    where
-      go : Flag (ltb i (length t)) → i < length t
-      go (on f) = ltb-true i (length t) f
-      go (off f) = absurd (no-word (run-end t i (ltb-false i (length t) f)))
-
-  code-starts : separator (getD t i 0) ≡ false
-  code-starts = go (flag (separator (getD t i 0)))
-    where
-      go : Flag (separator (getD t i 0)) → separator (getD t i 0) ≡ false
-      go (on f) = absurd (no-word (run-separator t i code-inside f))
-      go (off f) = f
+-- a word that is a code has a byte
+code-some : (w : List ℕ) → 0 < codeOf w → w ≡ [] → ⊥
+unfolding codeOf
+code-some w h e = let none : codeOf w ≡ 0 = ap codeOf e in omega arith
 
 some-bits : (u : List ℕ) → 0 < length u → all isBit u ≡ true → isVector (98 ∷ u) ≡ true
 some-bits [] h e = absurd (omega arith)
@@ -173,8 +158,9 @@ module _ (t : List ℕ) (from : ℕ) where
           let count : b .end - from ≡ min 255 (length u) = omega arith in
           let held = number-held u (b .number) bits in
           let same : b .number % 65536 ≡ b .number = omega arith in
-          let inside = code-inside t i there in
-          let starts = code-starts t i there in
+          let some = code-some (wordFrom t i) there in
+          let inside = word-inside t i some in
+          let starts = word-starts t i some in
           record {
             at = i;
             bits = some-bits u (omega arith) (all-bits u (b .number) bits);
@@ -303,7 +289,7 @@ module _ (t : List ℕ) (i : ℕ) (h : i < length t) where
         (end end′ : ℕ) (r r′ : Reader) → end ≡ i + 1 + length (wordFrom t (i + 1)) → Skips t end end′ →
         readWord r (wordAt i (b ∷ wordFrom t (i + 1))) ≡ only r′ → Follows t i r end′ r′
     follows-skip end end′ r r′ e s g =
-        follows-then t (follows-first end r r′ e g) (follows-passes t end end′ r′ (s .moves) (s .within) (s .passes))
+        follows-then t (follows-first end r r′ e g) (follows-skips t end end′ r′ s)
 
   module _ (r : Reader) (pl : r .place ≡ Body) (good : r .fault .number ≡ 0) where
     pub follows-vector :

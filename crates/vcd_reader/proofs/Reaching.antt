@@ -1,4 +1,7 @@
 -- Words that begin at an offset, a byte at a time. Assumes nothing.
+--   Within, within-none, within-more, within-all    the bytes of a word up to i
+--   is-over, over                               whether a word has a byte
+--   word-inside, word-starts                    a word that has one begins at its offset
 --   OnesTo, ones-none, ones-more, ones-there    bits 0 and 1 up to i, and their number
 --   CodeTo, code-none, code-more, code-there    the bytes of a code up to i, and what they spell
 --   TimeTo, time-none, time-more, time-there    decimal digits up to i, and their number
@@ -7,16 +10,16 @@ use mathlib.Core.Path.{_≡_, refl, sym, ap, _∙_}
 use mathlib.Core.List.{List, [], _∷_, map}
 use mathlib.Core.Bool.{Bool, true, false, not, _||_, cond}
 use lib.ListN.{length, getD}
-use lib.Dec.{leb, eqb}
+use lib.Dec.{ltb, leb, eqb}
 use native.Mathlib.Omega.{arith}
-use borrow.Author.Tests.{leb-true, le-leb, eqb-true}
+use borrow.Author.Tests.{ltb-true, ltb-false, leb-true, le-leb, eqb-true}
 use Rattle.lists.specs.Numbers.{between}
-use Rattle.lists.proofs.Bools.{and-in, and-l, and-r, or-off, clash, Flag, on, off, flag}
-use Rattle.recording.specs.Words.{all, isEmpty}
+use Rattle.lists.proofs.Bools.{and-in, and-l, and-r, or-off, clash, refuted, Flag, on, off, flag}
+use Rattle.recording.specs.Words.{separator, all, isEmpty}
 use Rattle.recording.specs.Values.{numeral, isBit, bitOf, bitNumber, isDigit, digitOf, isDecimal, decimal, codeOf}
 use Rattle.recording.specs.Reading.{maxTime}
 use Rattle.vcd_words.specs.Partial.{numberWith, withBit, moreBits}
-use Rattle.vcd_words.proofs.Bytes.{above-separators, definite, run-more}
+use Rattle.vcd_words.proofs.Bytes.{above-separators, definite, run-more, run-separator, run-end}
 use Rattle.vcd_words.proofs.Numbers.{digit-range}
 use Rattle.vcd_reader.specs.declared.Bits.{Bits}
 use Rattle.vcd_reader.specs.declared.Coded.{Coded}
@@ -28,19 +31,49 @@ pub record Within (t : List ℕ) (from i : ℕ) : Type 0 where
   pub start : from ≤ i
   pub end : i + length (wordFrom t i) ≡ from + length (wordFrom t from)
 
-within-none : (t : List ℕ) (from : ℕ) → Within t from from
+pub within-none : (t : List ℕ) (from : ℕ) → Within t from from
 within-none t from = record { start = omega arith; end = refl }
 
--- a byte above the space is one of a word
-module _ (t : List ℕ) (i : ℕ) (h : i < length t) (k : 32 < getD t i 0) where
-  word-more : wordFrom t i ≡ getD t i 0 ∷ wordFrom t (i + 1)
-  word-more = run-more t i h (above-separators (getD t i 0) k)
+-- a byte that is no separator is one of a word
+pub within-more :
+    (t : List ℕ) (from i : ℕ) → Within t from i → i < length t → separator (getD t i 0) ≡ false → Within t from (i + 1)
+within-more t from i w h k =
+    record { start = omega (arith, w .start); end = omega (arith, ap length (run-more t i h k), w .end) }
 
-  within-more : (from : ℕ) → Within t from i → Within t from (i + 1)
-  within-more from w = record { start = omega (arith, w .start); end = omega (arith, ap length word-more, w .end) }
-
-within-all : (t : List ℕ) (from i : ℕ) → Within t from i → wordFrom t i ≡ [] → i ≡ from + length (wordFrom t from)
+pub within-all : (t : List ℕ) (from i : ℕ) → Within t from i → wordFrom t i ≡ [] → i ≡ from + length (wordFrom t from)
 within-all t from i w e = omega (arith, ap length e, w .end)
+
+-- a byte above the space
+module _ (t : List ℕ) (i : ℕ) (h : i < length t) (k : 32 < getD t i 0) where
+  above-starts : separator (getD t i 0) ≡ false
+  above-starts = above-separators (getD t i 0) k
+
+  word-more : wordFrom t i ≡ getD t i 0 ∷ wordFrom t (i + 1)
+  word-more = run-more t i h above-starts
+
+-- whether a word has a byte
+pub is-over : (t : List ℕ) (i : ℕ) → i < length t → separator (getD t i 0) ≡ isEmpty (wordFrom t i)
+is-over t i h = go (flag (separator (getD t i 0)))
+  where
+    go : Flag (separator (getD t i 0)) → separator (getD t i 0) ≡ isEmpty (wordFrom t i)
+    go (on e) = rw (run-separator t i h e, e)
+    go (off e) = rw (run-more t i h e, e)
+
+pub over : (w : List ℕ) {b : Bool} → b ≡ isEmpty w → b ≡ true → w ≡ []
+over [] e f = refl
+over (x ∷ w) e f = clash f e
+
+-- a word that has one begins at its offset
+module _ (t : List ℕ) (i : ℕ) (some : wordFrom t i ≡ [] → ⊥) where
+  pub word-inside : i < length t
+  word-inside = go (flag (ltb i (length t)))
+    where
+      go : Flag (ltb i (length t)) → i < length t
+      go (on f) = ltb-true i (length t) f
+      go (off f) = absurd (some (run-end t i (ltb-false i (length t) f)))
+
+  pub word-starts : separator (getD t i 0) ≡ false
+  word-starts = refuted (separator (getD t i 0)) (λ f. some (run-separator t i word-inside f))
 
 -- ---- bits
 
@@ -79,7 +112,7 @@ module _ (t : List ℕ) (from : ℕ) where
   ones-more number i number′ o h k e =
       let above = known-range (getD t i 0) k in
       record {
-        inside = within-more t i h above from (o .inside);
+        inside = within-more t from i (o .inside) h (above-starts t i h above);
         bits =
             sym
             (ap (moreBits (numberWith true true false number)) (word-more t i h above)
@@ -151,7 +184,7 @@ module _ (t : List ℕ) (from : ℕ) where
       let next : i + 1 - from ≡ i - from + 1 = omega (arith, o .inside .start) in
       let value : code * 256 + getD t i 0 ≡ 256 * code + getD t i 0 = omega arith in
       record {
-        inside = within-more t i h above from (o .inside);
+        inside = within-more t from i (o .inside) h (above-starts t i h above);
         size = rw next (sized-more code (i - from) (getD t i 0) (o .size) l (range .0) (range .1));
         bytes = sym (ap (all (between 33 126)) more ∙ rw k) ∙ o .bytes;
         spells = ap (λ (v : ℕ). numeral 256 v (wordFrom t (i + 1))) value ∙ sym (ap (numeral 256 code) more) ∙ o .spells;
@@ -205,7 +238,7 @@ module _ (t : List ℕ) (from : ℕ) where
       let more = word-more t i h above in
       let value : time * 10 + (getD t i 0 - 48) ≡ 10 * time + digitOf (getD t i 0) = omega arith in
       record {
-        inside = within-more t i h above from (o .inside);
+        inside = within-more t from i (o .inside) h (above-starts t i h above);
         small = omega (arith, range .0, range .1);
         digits = sym (ap (all isDigit) more ∙ rw k) ∙ o .digits;
         spells =

@@ -3,16 +3,19 @@ ghost use Prim.Native.Nat.{_<_};
 ghost use mathlib.Core.Path.{_≡_};
 ghost use mathlib.Core.Bool.{true};
 ghost use lib.ListN.{length};
-ghost use Rattle.recording.specs.declared.Place.the-variants.{Body};
+ghost use Rattle.recording.specs.declared.Place.the-variants.{Definition, Body};
 ghost use Rattle.recording.specs.Records.{noStrobe};
 ghost use Rattle.vcd_reader.specs.Advances.{advancedWith, Advances};
+ghost use Rattle.vcd_reader.specs.Skipping.{SkipsTo};
 ghost use Rattle.vcd_reader.specs.Changes.{takenAt, Takes};
 use crate::Advanced;
 use crate::changes;
 use crate::runs;
+use crate::skipping;
 use recording::Place;
 use recording::Reader;
 use recording::Strobe;
+use vcd_words::readers;
 use vcd_words::scanning;
 use vcd_words::stamps;
 use vcd_words::words;
@@ -117,6 +120,34 @@ fn after_changes(text: &[u8], from: usize, r: Reader) -> Advanced
     any_word(text, i, p.reader)
 }
 
+// ---- what is skipped
+
+// Words up to $end, in a place where they are skipped.
+fn after_skipped(text: &[u8], from: usize, r: Reader, next: Place) -> Advanced
+    requires { ⌜ (r .fault .number ≡ 0) × SkipsTo (r .place) next ⌝ }
+    ensures { λ a. ⌜ Advances (now (text .entry)) from r a ⌝ }
+{
+    let e = skipping::to_end(text, from);
+    if e.found {
+        return advanced_with(readers::at(r, next), e.end, no_strobe(), 0);
+    }
+    advanced_with(r, e.end, no_strobe(), 0)
+}
+
+// Definitions that are skipped, then the word that stops them.
+fn after_definitions(text: &[u8], from: usize, r: Reader) -> Advanced
+    requires { ⌜ (r .place ≡ Definition) × (r .fault .number ≡ 0) ⌝ }
+    ensures { λ a. ⌜ Advances (now (text .entry)) from r a ⌝ }
+{
+    let i = skipping::definitions(text, from);
+    if text.len() <= i {
+        return advanced_with(r, i, no_strobe(), 0);
+    }
+    any_word(text, i, r)
+}
+
+// ---- all of it
+
 // The words from an offset on, up to one that gives a command, or one that is read by itself. A reader with a fault passes the rest.
 pub fn advance(text: &[u8], from: usize, r: Reader) -> Advanced
     ensures { λ a. ⌜ Advances (now (text .entry)) from r a ⌝ }
@@ -128,8 +159,11 @@ pub fn advance(text: &[u8], from: usize, r: Reader) -> Advanced
         return advanced_with(r, text.len(), no_strobe(), 0);
     }
     let place = r.place;
-    if let Place::Body = place {
-        return after_changes(text, from, r);
+    match place {
+        Place::Body => after_changes(text, from, r),
+        Place::SkipBody => after_skipped(text, from, r, Place::Body),
+        Place::Definition => after_definitions(text, from, r),
+        Place::SkipDefinition => after_skipped(text, from, r, Place::Definition),
+        _ => any_word(text, from, r),
     }
-    any_word(text, from, r)
 }

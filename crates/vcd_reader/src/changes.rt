@@ -1,4 +1,4 @@
-// Changes and times that give no command, in a place where a change may stand.
+// Changes, times that give no command, and comments, in a place where a change may stand.
 ghost use mathlib.Core.Path.{_≡_};
 ghost use mathlib.Core.Bool.{true, not, _&&_, _||_};
 ghost use Rattle.recording.specs.Records.{variableWith};
@@ -11,6 +11,7 @@ use crate::Passed;
 use crate::Placed;
 use crate::Timed;
 use crate::runs;
+use crate::skipping;
 use recording::Reader;
 use recording::Value;
 use recording::Variable;
@@ -162,7 +163,7 @@ fn quiet_time(text: &[u8], from: usize, opened: bool, level: Value, up: bool, ti
 
 // ---- all of them
 
-// Whole changes and times that give no command, as far as they go. What stops them is left to what reads any word.
+// Whole changes, times that give no command, and comments, as far as they go. What stops them is left to what reads any word.
 pub fn quiet(text: &[u8], from: usize, r: Reader) -> Passed
     requires { ⌜ (r .place ≡ Body) × (r .fault .number ≡ 0) ⌝ }
     ensures { λ p. ⌜ Quiet (now (text .entry)) from r p ⌝ }
@@ -199,7 +200,11 @@ pub fn quiet(text: &[u8], from: usize, r: Reader) -> Passed
             time = t.time;
             i = runs::skip(text, t.end);
         } else {
-            break;
+            let e = skipping::comment(text, i);
+            if !e.found {
+                break;
+            }
+            i = runs::skip(text, e.end);
         }
     }
     changed(i, r, now, last, time, up)

@@ -1,12 +1,20 @@
 // Reads a recording from bytes, from an offset up to the next command. What the words of a text do is said in the crate recording.
 pub mod advancing;
 mod changes;
+mod keywords;
 mod runs;
+mod skipping;
 
 use recording::Reader;
 use recording::Strobe;
 use recording::Variables;
 use recording::Vector;
+
+// Whether a word is found, and where it ends.
+pub struct Ended {
+    pub found: bool,
+    pub end: usize,
+}
 
 // The bits 0 and 1 from an offset on: whether a word ends with them, where they end, and their number, held at 65,535.
 pub struct Bits {

@@ -1,20 +1,20 @@
 // Words that begin at an offset, each byte read once. Each answers for the usual word, and leaves the others to vcd_words.
+ghost use Prim.Native.Nat.{_+_};
 ghost use mathlib.Core.Path.{_≡_};
-ghost use mathlib.Core.List.{[]};
-ghost use mathlib.Core.Bool.{true, _||_};
-ghost use lib.ListN.{drop};
+ghost use mathlib.Core.Bool.{_||_};
+ghost use lib.ListN.{length};
 ghost use lib.Dec.{eqb};
 ghost use Rattle.lists.specs.Numbers.{between};
-ghost use Rattle.vcd_words.specs.Partial.{run};
-ghost use Rattle.vcd_reader.specs.Runs.{bitsWith, codedWith, timedWith, Ones, CodeThere, TimeThere, Skips};
+ghost use Rattle.recording.specs.Words.{isEmpty};
+ghost use Rattle.vcd_reader.specs.Runs.{wordFrom, bitsWith, codedWith, timedWith, Ones, CodeThere, TimeThere, Skips};
 use crate::Bits;
 use crate::Coded;
 use crate::Timed;
 use vcd_words::scanning;
 
 // Whether no byte of a word stands at an offset.
-fn is_end(text: &[u8], at: usize) -> bool
-    ensures { λ b. ⌜ (b ≡ true → run (drop at (now (text .entry))) ≡ []) ⌝ }
+pub fn is_end(text: &[u8], at: usize) -> bool
+    ensures { λ b. ⌜ b ≡ isEmpty (wordFrom (now (text .entry)) at) ⌝ }
 {
     if at < text.len() {
         return scanning::is_separator(text[at]);
@@ -29,6 +29,20 @@ pub fn skip(text: &[u8], from: usize) -> usize
     let mut i = from;
     while i < text.len() {
         if !scanning::is_separator(text[i]) {
+            break;
+        }
+        i += 1;
+    }
+    i
+}
+
+// The first separator, or the end of the text.
+pub fn past(text: &[u8], from: usize) -> usize
+    ensures { λ r. ⌜ r ≡ from + length (wordFrom (now (text .entry)) from) ⌝ }
+{
+    let mut i = from;
+    while i < text.len() {
+        if scanning::is_separator(text[i]) {
             break;
         }
         i += 1;

@@ -9,7 +9,7 @@ use borrow.Author.Tests.{not-false}
 use Rattle.vcd_words.proofs.Asked.{passed}
 use Rattle.vcd_reader.specs.Advances.{Follows}
 use Rattle.vcd_reader.specs.Changes.{changedTo, CodedVector}
-use Rattle.vcd_reader.proofs.Follows.{follows-then, follows-passes}
+use Rattle.vcd_reader.proofs.Follows.{follows-then, follows-skips}
 use Rattle.vcd_reader.proofs.Changing.{some-code, quiet-vector, quiet-level, quiet-time}
 use Rattle.vcd_reader.proofs.changes.quiet.Statement.{statement}
 use Rattle.vcd_reader.proofs.changes.quiet.Tie as tie
@@ -24,9 +24,7 @@ skip-requires : tie.Need-skip-requires Inv-loop μ-loop
 skip-requires c κs = search needs
 
 loop-holds : tie.Need-loop-holds Inv-loop μ-loop
-loop-holds c =
-    let s = c .skip .ensures in
-    follows-passes _ _ _ _ (s .moves) (s .within) (s .passes)
+loop-holds c = follows-skips _ _ _ _ (c .skip .ensures)
 
 shared-slice-read-b : tie.Need-shared-slice-read-b Inv-loop μ-loop
 shared-slice-read-b c = omega arith
@@ -150,6 +148,30 @@ loop-again-3 c =
     (asked .quiet-time .result) (c .skip3 .result) (is .if5 .taken) (asked .quiet-time .ensures) (not-false _ (whole .if6 .left))
     (c .skip3 .ensures))
 
+comment-requires : tie.Need-comment-requires Inv-loop μ-loop
+comment-requires c κs = search needs
+
+skip-requires-4 : tie.Need-skip-requires-4 Inv-loop μ-loop
+skip-requires-4 c κs = search needs
+
+loop-less-4 : tie.Need-loop-less-4 Inv-loop μ-loop
+loop-less-4 c =
+    let found = c .before in
+    let passed = found .before .before in
+    let inside = passed .before .before .before .before .before .before .before in
+    omega
+    (arith, passed .comment .ensures .moves (not-false _ (found .if7 .left)), c .skip4 .ensures .moves, inside .loop-test .taken)
+
+loop-again-4 : tie.Need-loop-again-4 Inv-loop μ-loop
+loop-again-4 c =
+    let found = c .before in
+    let passed = found .before .before in
+    let at = passed .before .before .before .before .before .before .before .before in
+    let start = at .before .before .before .before .before in
+    follows-then _ (at .loop .inv)
+    (follows-then _ (passed .comment .ensures .passes (not-false _ (found .if7 .left)) _ (start .pre .0) (start .pre .1))
+    (follows-skips _ _ _ _ (c .skip4 .ensures)))
+
 changed-requires : tie.Need-changed-requires Inv-loop μ-loop
 changed-requires c κs = search needs
 
@@ -187,5 +209,9 @@ quiet-spec =
     skip-requires-3
     loop-less-3
     loop-again-3
+    comment-requires
+    skip-requires-4
+    loop-less-4
+    loop-again-4
     changed-requires
     returns)

@@ -5,7 +5,7 @@ use lib.ListN.{length}
 use native.Mathlib.Omega.{arith}
 use borrow.Author.Needs.{needs}
 use Rattle.vcd_words.proofs.Asked.{passed}
-use Rattle.vcd_reader.proofs.Reaching.{OnesTo, ones-none, ones-more, ones-there}
+use Rattle.vcd_reader.proofs.Reaching.{over, OnesTo, ones-none, ones-more, ones-there}
 use Rattle.vcd_reader.proofs.runs.ones.Statement.{statement}
 use Rattle.vcd_reader.proofs.runs.ones.Tie as tie
 
@@ -49,7 +49,7 @@ bits-with-requires c κs = search needs
 returns : tie.Need-returns Inv-loop μ-loop
 returns c =
     let l = c .before .before .before .loop in
-    ones-there _ _ _ _ (l .number) (l .i) (c .bits-with .ensures) (l .inv) (c .before .is-end .ensures)
+    ones-there _ _ _ _ (l .number) (l .i) (c .bits-with .ensures) (l .inv) (over _ (c .before .is-end .ensures))
 
 pub ones-spec : {M : Type 1} → statement M
 ones-spec =
