@@ -40,10 +40,10 @@ use Rattle.vcd_reader.specs.declared.Given.{Given}
 use Rattle.vcd_reader.specs.declared.Placed.{Placed}
 use Rattle.vcd_reader.specs.declared.Timed.{Timed}
 use Rattle.vcd_reader.specs.Advances.{Follows}
-use Rattle.vcd_reader.specs.Runs.{wordFrom, timedWith, Ones, CodeThere, TimeThere, Skips}
-use Rattle.vcd_reader.specs.Changes.{givenWith, knownVector, placedWith, withVariables, changedTo, CodedVector, VectorThere, Places, QuietTime, withLevel, takenAt, Takes}
+use Rattle.vcd_reader.specs.Runs.{wordFrom, timedWith, BitsThere, CodeThere, TimeThere, Skips}
+use Rattle.vcd_reader.specs.Changes.{givenWith, bitsVector, placedWith, withVariables, changedTo, CodedVector, VectorThere, Places, QuietTime, withLevel, takenAt, Takes}
 use Rattle.vcd_reader.proofs.Follows.{follows-then, follows-passes, follows-skips, follows-word, word-within}
-use Rattle.vcd_reader.proofs.Reaching.{word-inside, word-starts, isKnown, known-range, no-time}
+use Rattle.vcd_reader.proofs.Reaching.{word-inside, word-starts, bit-other, bit-range, no-time}
 
 -- ---- the variable of a code
 
@@ -109,29 +109,29 @@ module _ (vs : Variables) (code : ℕ) (v : Vector) (p : Placed) where
 
 -- ---- a vector with its code
 
--- bits that are all known, and their number
-module _ (u : List ℕ) (n : ℕ) (e : moreBits (numberWith true true false 0) u ≡ numberWith true true false n) where
-  sum : bitsOf (numberWith true true false 0) 0 u ≡ numberWith true true false n
+-- bits, and their number where they are all known
+module _ (u : List ℕ) (known : Bool) (n : ℕ) (e : moreBits (numberWith true true false 0) u ≡ numberWith true known false n) where
+  sum : bitsOf (numberWith true true false 0) 0 u ≡ numberWith true known false n
   sum = sym (bits-sum (numberWith true true false 0) 0 u refl) ∙ e
 
   all-bits : all isBit u ≡ true
   all-bits = go (flag (all isBit u)) sum
     where
-      go : Flag (all isBit u) → bitsOf (numberWith true true false 0) 0 u ≡ numberWith true true false n → all isBit u ≡ true
+      go : Flag (all isBit u) → bitsOf (numberWith true true false 0) 0 u ≡ numberWith true known false n → all isBit u ≡ true
       go (on f) g = f
       go (off f) g = let no : false ≡ true = ap (λ (x : Number). x .whole) (rw f at g) in clash no refl
 
   full :
       numberWith true (all isDefinite (map bitOf u)) false (min 65535 (numeral 2 0 (map bitNumber (map bitOf u)))) ≡
-      numberWith true true false n
+      numberWith true known false n
   full = rw all-bits at sum
 
   number-held : n ≤ 65535
   number-held = omega (arith, ap (λ (x : Number). x .value) full)
 
-  vector-known : knownVector (min 255 (length u)) n ≡ vectorOf u
+  vector-given : bitsVector (min 255 (length u)) known n ≡ vectorOf u
   unfolding vectorOf valueOf
-  vector-known = rw (ap (λ (x : Number). x .known) full, ap (λ (x : Number). x .value) full)
+  vector-given = rw (ap (λ (x : Number). x .known) full, ap (λ (x : Number). x .value) full)
 
 -- a word that is a code has a byte
 code-some : (w : List ℕ) → 0 < codeOf w → w ≡ [] → ⊥
@@ -145,26 +145,26 @@ some-bits (b ∷ u) h e = e
 module _ (t : List ℕ) (from : ℕ) where
   pub coded-vector :
       (b : Bits) (i : ℕ) (c : Coded) (v : Vector) (end : ℕ) (g : Given) →
-      Ones t from b → b .whole ≡ true → from < b .end → b .end - from ≤ 255 → Skips t (b .end) i → CodeThere t i c →
-      v ≡ knownVector (b .end - from) (b .number % 65536) → Skips t (c .end) end → g ≡ givenWith end (c .code) v → VectorThere t from g
+      BitsThere t from b → b .whole ≡ true → from < b .end → b .end - from ≤ 255 → Skips t (b .end) i → CodeThere t i c →
+      v ≡ bitsVector (b .end - from) (b .known) (b .number % 65536) → Skips t (c .end) end → g ≡ givenWith end (c .code) v → VectorThere t from g
   coded-vector b i c v end g o whole more short s k ev s′ eg = rw eg (λ h. go h (o .end whole) (o .number whole) (k .end h) (k .code h))
     where
       go : 0 < c .code → b .end ≡ from + length (wordFrom t from) →
-          moreBits (numberWith true true false 0) (wordFrom t from) ≡ numberWith true true false (b .number) →
+          moreBits (numberWith true true false 0) (wordFrom t from) ≡ numberWith true (b .known) false (b .number) →
           c .end ≡ i + length (wordFrom t i) → c .code ≡ codeOf (wordFrom t i) → CodedVector t from (givenWith end (c .code) v)
       go h ends bits cends code =
           let u = wordFrom t from in
           let there : 0 < codeOf (wordFrom t i) = omega arith in
           let count : b .end - from ≡ min 255 (length u) = omega arith in
-          let held = number-held u (b .number) bits in
+          let held = number-held u (b .known) (b .number) bits in
           let same : b .number % 65536 ≡ b .number = omega arith in
           let some = code-some (wordFrom t i) there in
           let inside = word-inside t i some in
           let starts = word-starts t i some in
           record {
             at = i;
-            bits = some-bits u (omega arith) (all-bits u (b .number) bits);
-            vector = rw (ev, count, same) (vector-known u (b .number) bits);
+            bits = some-bits u (omega arith) (all-bits u (b .known) (b .number) bits);
+            vector = rw (ev, count, same) (vector-given u (b .known) (b .number) bits);
             passes = rw (← ends) (s .passes);
             later = omega (arith, s .moves);
             inside = inside;
@@ -213,14 +213,20 @@ module _ (r : Reader) (i : ℕ) (u : List ℕ) (good : r .fault .number ≡ 0) w
         go (off f) = rw (eqb-true b 66 (or-off (eqb b 98) (eqb b 66) k f), eq-eqb _ _ good, pl, e)
 
     read-level :
-        (b : ℕ) → isKnown b ≡ true → hasCode r u Stb ≡ true →
+        (b : ℕ) → isBit b ≡ true → hasCode r u Stb ≡ true →
         readWord r (wordAt i (b ∷ u)) ≡ only (withVariables (withLevel (r .variables) b) (at Body r))
-    unfolding readWord readAt readBody readChange valueOf
-    read-level b e k = go (flag (eqb b 48))
-      where
-        go : Flag (eqb b 48) → readWord r (wordAt i (b ∷ u)) ≡ only (withVariables (withLevel (r .variables) b) (at Body r))
-        go (on f) = rw (eqb-true b 48 f, eq-eqb _ _ good, pl, k)
-        go (off f) = rw (eqb-true b 49 (or-off (eqb b 48) (eqb b 49) e f), eq-eqb _ _ good, pl, k)
+    unfolding readWord readAt readBody readChange
+    read-level b e k =
+        rw (
+          eq-eqb _ _ good,
+          pl,
+          bit-other b 35 e refl,
+          bit-other b 36 e refl,
+          bit-other b 98 e refl,
+          bit-other b 66 e refl,
+          e,
+          k,
+        )
 
     read-hash : readWord r (wordAt i (35 ∷ u)) ≡ readTime r (wordAt i (35 ∷ u))
     unfolding readWord readAt readBody
@@ -313,7 +319,7 @@ module _ (t : List ℕ) (i : ℕ) (h : i < length t) where
         (follows-passes t over (g .end) r₂ (v .moves) (λ x. v .within) (v .rest))))
 
     pub follows-level :
-        (b : ℕ) (c : Coded) (end : ℕ) → getD t i 0 ≡ b → isKnown b ≡ true → CodeThere t (i + 1) c →
+        (b : ℕ) (c : Coded) (end : ℕ) → getD t i 0 ≡ b → isBit b ≡ true → CodeThere t (i + 1) c →
         (ltb 0 (c .code) && eqb (r .variables .stb .code) (c .code)) ≡ true → Skips t (c .end) end →
         Follows t i r end (withVariables (withLevel (r .variables) b) (at Body r))
     follows-level b c end eb k there e s =
@@ -321,7 +327,7 @@ module _ (t : List ℕ) (i : ℕ) (h : i < length t) where
         let same : r .variables .stb .code ≡ c .code
         = eqb-true (r .variables .stb .code) (c .code) (and-r (ltb 0 (c .code)) (eqb (r .variables .stb .code) (c .code)) e) in
         let code : c .code ≡ codeOf (wordFrom t (i + 1)) = there .code some in
-        follows-skip b eb (known-range b k) (c .end) end r _ (there .end some) s
+        follows-skip b eb (bit-range b k) (c .end) end r _ (there .end some) s
         (read-level r i (wordFrom t (i + 1)) good pl b k (has-code r (wordFrom t (i + 1)) Stb (omega arith) (same ∙ code)))
 
     module _ (a : Timed) (eb : getD t i 0 ≡ 35) (there : TimeThere t (i + 1) a) (whole : a .whole ≡ true) where
@@ -360,7 +366,7 @@ module _ (t : List ℕ) (i : ℕ) (h : i < length t) (r : Reader) (pl : r .place
       (follows-vector t i h (changedTo r vs v time up) pl good b g p eb k c q f)
 
   pub quiet-level :
-      (b : ℕ) (c : Coded) (end : ℕ) → getD t i 0 ≡ b → isKnown b ≡ true → CodeThere t (i + 1) c →
+      (b : ℕ) (c : Coded) (end : ℕ) → getD t i 0 ≡ b → isBit b ≡ true → CodeThere t (i + 1) c →
       (ltb 0 (c .code) && eqb (vs .stb .code) (c .code)) ≡ true → Skips t (c .end) end →
       Follows t i (changedTo r vs v time up) end (changedTo r (withLevel vs b) v time up)
   quiet-level b c end eb k there e s =

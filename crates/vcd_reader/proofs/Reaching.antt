@@ -2,21 +2,21 @@
 --   Within, within-none, within-more, within-all    the bytes of a word up to i
 --   is-over, over                               whether a word has a byte
 --   word-inside, word-starts                    a word that has one begins at its offset
---   OnesTo, ones-none, ones-more, ones-there    bits 0 and 1 up to i, and their number
+--   BitsTo, bits-none, bits-more, ones-more, bits-there    bits up to i, and their number
 --   CodeTo, code-none, code-more, code-there    the bytes of a code up to i, and what they spell
 --   TimeTo, time-none, time-more, time-there    decimal digits up to i, and their number
 use Prim.Native.Nat.{ℕ, _+_, _*_, _-_, _<_, _≤_, min}
 use mathlib.Core.Path.{_≡_, refl, sym, ap, _∙_}
 use mathlib.Core.List.{List, [], _∷_, map}
-use mathlib.Core.Bool.{Bool, true, false, not, _||_, cond}
+use mathlib.Core.Bool.{Bool, true, false, not, _&&_, _||_, cond}
 use lib.ListN.{length, getD}
 use lib.Dec.{ltb, leb, eqb}
 use native.Mathlib.Omega.{arith}
-use borrow.Author.Tests.{ltb-true, ltb-false, leb-true, le-leb, eqb-true}
+use borrow.Author.Tests.{ltb-true, ltb-false, leb-true, le-leb, ne-eqb}
 use Rattle.lists.specs.Numbers.{between}
 use Rattle.lists.proofs.Bools.{and-in, and-l, and-r, or-off, clash, refuted, Flag, on, off, flag}
 use Rattle.recording.specs.Words.{separator, all, isEmpty}
-use Rattle.recording.specs.Values.{numeral, isBit, bitOf, bitNumber, isDigit, digitOf, isDecimal, decimal, codeOf}
+use Rattle.recording.specs.Values.{numeral, isBit, bitOf, isDefinite, bitNumber, isDigit, digitOf, isDecimal, decimal, codeOf}
 use Rattle.recording.specs.Reading.{maxTime}
 use Rattle.vcd_words.specs.Partial.{numberWith, withBit, moreBits}
 use Rattle.vcd_words.proofs.Bytes.{above-separators, definite, run-more, run-separator, run-end}
@@ -24,7 +24,7 @@ use Rattle.vcd_words.proofs.Numbers.{digit-range}
 use Rattle.vcd_reader.specs.declared.Bits.{Bits}
 use Rattle.vcd_reader.specs.declared.Coded.{Coded}
 use Rattle.vcd_reader.specs.declared.Timed.{Timed}
-use Rattle.vcd_reader.specs.Runs.{wordFrom, bitsWith, codedWith, timedWith, Ones, CodeThere, TimeThere}
+use Rattle.vcd_reader.specs.Runs.{wordFrom, bitsWith, codedWith, timedWith, BitsThere, CodeThere, TimeThere}
 
 -- the length of the word is what is passed and what is left
 pub record Within (t : List ℕ) (from i : ℕ) : Type 0 where
@@ -80,16 +80,6 @@ module _ (t : List ℕ) (i : ℕ) (some : wordFrom t i ≡ [] → ⊥) where
 abbrev pub isKnown : ℕ → Bool
 isKnown b = eqb b 48 || eqb b 49
 
-pub known-least : (b : ℕ) → isKnown b ≡ true → 48 ≤ b
-known-least b e = go (flag (eqb b 48))
-  where
-    go : Flag (eqb b 48) → 48 ≤ b
-    go (on f) = omega (arith, eqb-true b 48 f)
-    go (off f) = omega (arith, eqb-true b 49 (or-off (eqb b 48) (eqb b 49) e f))
-
-pub known-range : (b : ℕ) → isKnown b ≡ true → 32 < b
-known-range b e = omega (arith, known-least b e)
-
 pub known-bit : (b : ℕ) → isKnown b ≡ true → isBit b ≡ true
 known-bit b e = go (flag (eqb b 48))
   where
@@ -97,41 +87,68 @@ known-bit b e = go (flag (eqb b 48))
     go (on f) = rw f
     go (off f) = rw (f, or-off (eqb b 48) (eqb b 49) e f)
 
+-- a byte that is a bit is no other
+pub bit-other : (b c : ℕ) → isBit b ≡ true → isBit c ≡ false → eqb b c ≡ false
+bit-other b c e f = ne-eqb b c (λ g. clash e (ap isBit g ∙ f))
+
+pub bit-range : (b : ℕ) → isBit b ≡ true → 32 < b
+bit-range b e = go (flag (ltb 32 b))
+  where
+    go : Flag (ltb 32 b) → 32 < b
+    go (on f) = ltb-true 32 b f
+    go (off f) =
+        let low : b ≤ 32 = ltb-false 32 b f in
+        let none : isBit b ≡ false
+        = rw (
+          ne-eqb b 48 (λ g. omega arith),
+          ne-eqb b 49 (λ g. omega arith),
+          ne-eqb b 120 (λ g. omega arith),
+          ne-eqb b 88 (λ g. omega arith),
+          ne-eqb b 122 (λ g. omega arith),
+          ne-eqb b 90 (λ g. omega arith),
+        ) in
+        clash e none
+
 module _ (t : List ℕ) (from : ℕ) where
-  pub record OnesTo (number i : ℕ) : Type 0 where
+  pub record BitsTo (known : Bool) (number i : ℕ) : Type 0 where
     pub inside : Within t from i
-    pub bits : moreBits (numberWith true true false number) (wordFrom t i) ≡ moreBits (numberWith true true false 0) (wordFrom t from)
+    pub bits : moreBits (numberWith true known false number) (wordFrom t i) ≡ moreBits (numberWith true true false 0) (wordFrom t from)
 
-  pub ones-none : OnesTo 0 from
-  ones-none = record { inside = within-none t from; bits = refl }
+  pub bits-none : BitsTo true 0 from
+  bits-none = record { inside = within-none t from; bits = refl }
 
-  pub ones-more :
-      (number i number′ : ℕ) → OnesTo number i → i < length t → isKnown (getD t i 0) ≡ true →
-      number′ ≡ min 65535 (2 * number + bitNumber (bitOf (getD t i 0))) → OnesTo number′ (i + 1)
+  pub bits-more :
+      (known : Bool) (number i : ℕ) (known′ : Bool) (number′ : ℕ) → BitsTo known number i → i < length t →
+      isBit (getD t i 0) ≡ true → known′ ≡ (known && isDefinite (bitOf (getD t i 0))) →
+      number′ ≡ min 65535 (2 * number + bitNumber (bitOf (getD t i 0))) → BitsTo known′ number′ (i + 1)
   unfolding withBit
-  ones-more number i number′ o h k e =
-      let above = known-range (getD t i 0) k in
+  bits-more known number i known′ number′ o h k ek e =
+      let above = bit-range (getD t i 0) k in
       record {
         inside = within-more t from i (o .inside) h (above-starts t i h above);
         bits =
-            sym
-            (ap (moreBits (numberWith true true false number)) (word-more t i h above)
-            ∙ rw (known-bit (getD t i 0) k, definite (getD t i 0) ∙ k, e))
-            ∙ o .bits;
+            sym (ap (moreBits (numberWith true known false number)) (word-more t i h above) ∙ rw (k, ek, e)) ∙ o .bits;
       }
 
-  pub ones-all :
-      (number i : ℕ) → OnesTo number i → wordFrom t i ≡ [] →
-      (i ≡ from + length (wordFrom t from))
-      × (moreBits (numberWith true true false 0) (wordFrom t from) ≡ numberWith true true false number)
-  ones-all number i o e =
-      (within-all t from i (o .inside) e, sym (o .bits) ∙ ap (moreBits (numberWith true true false number)) e)
+  -- 0 and 1 leave the number known
+  pub ones-more :
+      (number i number′ : ℕ) → BitsTo true number i → i < length t → isKnown (getD t i 0) ≡ true →
+      number′ ≡ min 65535 (2 * number + bitNumber (bitOf (getD t i 0))) → BitsTo true number′ (i + 1)
+  ones-more number i number′ o h k e =
+      bits-more true number i true number′ o h (known-bit (getD t i 0) k) (sym (definite (getD t i 0) ∙ k)) e
 
-  pub ones-there :
-      (b : Bits) (whole : Bool) (number i : ℕ) → b ≡ bitsWith whole i number → OnesTo number i → (whole ≡ true → wordFrom t i ≡ []) →
-      Ones t from b
-  ones-there b whole number i e o h =
-      rw e (record { end = λ f. ones-all number i o (h f) .0; number = λ f. ones-all number i o (h f) .1 })
+  pub bits-all :
+      (known : Bool) (number i : ℕ) → BitsTo known number i → wordFrom t i ≡ [] →
+      (i ≡ from + length (wordFrom t from))
+      × (moreBits (numberWith true true false 0) (wordFrom t from) ≡ numberWith true known false number)
+  bits-all known number i o e =
+      (within-all t from i (o .inside) e, sym (o .bits) ∙ ap (moreBits (numberWith true known false number)) e)
+
+  pub bits-there :
+      (b : Bits) (whole known : Bool) (number i : ℕ) → b ≡ bitsWith whole known i number → BitsTo known number i →
+      (whole ≡ true → wordFrom t i ≡ []) → BitsThere t from b
+  bits-there b whole known number i e o h =
+      rw e (record { end = λ f. bits-all known number i o (h f) .0; number = λ f. bits-all known number i o (h f) .1 })
 
 -- ---- codes
 

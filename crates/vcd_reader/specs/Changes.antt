@@ -3,10 +3,10 @@
 --   changedTo r ..    a reader in the place Body with other values, time and level
 --   Places            the variable of a code takes a vector
 --   Takes r time      the word # with this time gives a command
-use Prim.Native.Nat.{ℕ, suc, _+_, _-_, _<_, _≤_}
+use Prim.Native.Nat.{ℕ, suc, _+_, _<_, _≤_}
 use mathlib.Core.Path.{_≡_}
 use mathlib.Core.List.{List, _∷_}
-use mathlib.Core.Bool.{Bool, true, false, not, _&&_}
+use mathlib.Core.Bool.{Bool, true, false, not, _&&_, cond}
 use lib.ListN.{length, getD}
 use lib.Dec.{eqb}
 use Rattle.recording.specs.declared.Place.the-variants.{Body}
@@ -16,10 +16,11 @@ use Rattle.recording.specs.declared.Vector.{Vector}
 use Rattle.recording.specs.declared.Variables.{Variables}
 use Rattle.recording.specs.declared.Reader.{Reader}
 use Rattle.recording.specs.Words.{separator, wordAt}
-use Rattle.recording.specs.Values.{value, vectorWith, vectorOf, codeOf}
+use Rattle.recording.specs.Values.{value, unknown, vectorWith, vectorOf, codeOf}
 use Rattle.recording.specs.Records.{variableWith, withVariableOf, readerWith, pendingWith, stampWith, at, withUp, withTaken, withTime, readWith}
 use Rattle.recording.specs.Stamps.{strobeOf}
 use Rattle.recording.specs.Reading.{isVector, vectorSignal, readVectorCode, isTime, timeOf, readTime}
+use Rattle.vcd_words.specs.Partial.{bitValue}
 use Rattle.vcd_reader.specs.declared.Given.{Given}
 use Rattle.vcd_reader.specs.declared.Placed.{Placed}
 use Rattle.vcd_reader.specs.declared.Passed.{Passed}
@@ -32,8 +33,8 @@ use Rattle.vcd_reader.specs.Runs.{wordFrom, TimeThere}
 abbrev pub givenWith : ℕ → ℕ → Vector → Given
 givenWith end code v = record { end = end; code = code; vector = v }
 
-abbrev pub knownVector : ℕ → ℕ → Vector
-knownVector length number = vectorWith length (value true number)
+abbrev pub bitsVector : ℕ → Bool → ℕ → Vector
+bitsVector length known number = vectorWith length (cond known (value true number) unknown)
 
 -- After b or B, from an offset on: a vector, and at a later offset its code.
 pub record CodedVector (t : List ℕ) (from : ℕ) (g : Given) : Type 0 where
@@ -67,9 +68,8 @@ pub record Places (vs : Variables) (code : ℕ) (v : Vector) (p : Placed) : Type
 
 -- ---- stb
 
--- Asked of 0 and 1.
 abbrev pub withLevel : Variables → ℕ → Variables
-withLevel vs b = withVariableOf vs Stb (variableWith (vs .stb .code) (vs .stb .width) (value true (b - 48)))
+withLevel vs b = withVariableOf vs Stb (variableWith (vs .stb .code) (vs .stb .width) (bitValue b))
 
 -- ---- times
 

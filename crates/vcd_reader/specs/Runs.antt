@@ -27,13 +27,14 @@ pub record Skips (t : List ℕ) (from end : ℕ) : Type 0 where
 
 -- ---- bits
 
-abbrev pub bitsWith : Bool → ℕ → ℕ → Bits
-bitsWith whole end number = record { whole = whole; end = end; number = number }
+abbrev pub bitsWith : Bool → Bool → ℕ → ℕ → Bits
+bitsWith whole known end number = record { whole = whole; known = known; end = end; number = number }
 
--- Every byte of the word is 0 or 1, and this is their number.
-pub record Ones (t : List ℕ) (from : ℕ) (b : Bits) : Type 0 where
+-- Every byte of the word is a bit, and this is their number, where they are all known.
+pub record BitsThere (t : List ℕ) (from : ℕ) (b : Bits) : Type 0 where
   pub end : b .whole ≡ true → b .end ≡ from + length (wordFrom t from)
-  pub number : b .whole ≡ true → moreBits (numberWith true true false 0) (wordFrom t from) ≡ numberWith true true false (b .number)
+  pub number :
+      b .whole ≡ true → moreBits (numberWith true true false 0) (wordFrom t from) ≡ numberWith true (b .known) false (b .number)
 
 -- ---- codes
 

@@ -1,11 +1,11 @@
 // Changes, times that give no command, and comments, in a place where a change may stand.
 ghost use mathlib.Core.Path.{_≡_};
-ghost use mathlib.Core.Bool.{true, not, _&&_, _||_};
+ghost use mathlib.Core.Bool.{not, _&&_};
 ghost use Rattle.recording.specs.Records.{variableWith};
 ghost use lib.ListN.{length};
 ghost use lib.Dec.{ltb, eqb};
 ghost use Rattle.recording.specs.declared.Place.the-variants.{Body};
-ghost use Rattle.vcd_reader.specs.Changes.{givenWith, knownVector, placedWith, passedWith, changedTo, withLevel, VectorThere, Places, QuietTime, Quiet};
+ghost use Rattle.vcd_reader.specs.Changes.{givenWith, bitsVector, placedWith, passedWith, changedTo, withLevel, VectorThere, Places, QuietTime, Quiet};
 use crate::Given;
 use crate::Passed;
 use crate::Placed;
@@ -19,6 +19,7 @@ use recording::Variables;
 use recording::Vector;
 use vcd_words::readers;
 use vcd_words::scanning;
+use vcd_words::words;
 
 // ---- vectors
 
@@ -32,35 +33,32 @@ fn given_with(end: usize, code: u32, v: Vector) -> Given
     }
 }
 
-fn known_vector(length: u8, number: u16) -> Vector
-    ensures { λ r. ⌜ r ≡ knownVector length number ⌝ }
+fn bits_vector(length: u8, known: bool, number: u16) -> Vector
+    ensures { λ r. ⌜ r ≡ bitsVector length known number ⌝ }
 {
-    Vector {
-        length,
-        value: Value {
-            known: true,
-            number,
-        },
+    if known {
+        return readers::vector_with(length, readers::value_with(true, number));
     }
+    readers::vector_with(length, readers::value_with(false, 0))
 }
 
-// After b or B, from an offset on: bits, all of them 0 or 1, and a code.
+// After b or B, from an offset on: bits, and a code.
 fn vector_at(text: &[u8], from: usize) -> Given
     ensures { λ r. ⌜ VectorThere (now (text .entry)) from r ⌝ }
 {
-    let bits = runs::ones(text, from);
+    let bits = runs::bits(text, from);
     let end = bits.end;
     if !bits.whole {
-        return given_with(end, 0, known_vector(0, 0));
+        return given_with(end, 0, bits_vector(0, false, 0));
     }
     if end <= from {
-        return given_with(end, 0, known_vector(0, 0));
+        return given_with(end, 0, bits_vector(0, false, 0));
     }
     if 255 < end - from {
-        return given_with(end, 0, known_vector(0, 0));
+        return given_with(end, 0, bits_vector(0, false, 0));
     }
     let c = runs::code_at(text, runs::skip(text, end));
-    let v = known_vector((end - from) as u8, (bits.number % 65536) as u16);
+    let v = bits_vector((end - from) as u8, bits.known, (bits.number % 65536) as u16);
     given_with(runs::skip(text, c.end), c.code, v)
 }
 
@@ -121,11 +119,10 @@ fn is_coded(v: Variable, code: u32) -> bool
 }
 
 fn with_level(vs: Variables, b: u8) -> Variables
-    requires { ⌜ (eqb b 48 || eqb b 49) ≡ true ⌝ }
     ensures { λ r. ⌜ r ≡ withLevel vs b ⌝ }
 {
     let mut next = vs;
-    next.stb = with_value(vs.stb, readers::value_with(true, (b - 48) as u16));
+    next.stb = with_value(vs.stb, words::bit_value(b));
     next
 }
 
@@ -184,7 +181,7 @@ pub fn quiet(text: &[u8], from: usize, r: Reader) -> Passed
             now = p.variables;
             last = g.vector;
             i = g.end;
-        } else if runs::is_known(b) {
+        } else if scanning::is_bit(b) {
             let c = runs::code_at(text, i + 1);
             if !is_coded(now.stb, c.code) {
                 break;

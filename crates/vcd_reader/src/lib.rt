@@ -16,9 +16,11 @@ pub struct Ended {
     pub end: usize,
 }
 
-// The bits 0 and 1 from an offset on: whether a word ends with them, where they end, and their number, held at 65,535.
+// The bits from an offset on: whether a word ends with them, whether they are all 0 or 1, where they end, and their number, held at
+// 65,535.
 pub struct Bits {
     pub whole: bool,
+    pub known: bool,
     pub end: usize,
     pub number: u64,
 }

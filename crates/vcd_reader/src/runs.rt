@@ -6,7 +6,7 @@ ghost use lib.ListN.{length};
 ghost use lib.Dec.{eqb};
 ghost use Rattle.lists.specs.Numbers.{between};
 ghost use Rattle.recording.specs.Words.{isEmpty};
-ghost use Rattle.vcd_reader.specs.Runs.{wordFrom, bitsWith, codedWith, timedWith, Ones, CodeThere, TimeThere, Skips};
+ghost use Rattle.vcd_reader.specs.Runs.{wordFrom, bitsWith, codedWith, timedWith, BitsThere, CodeThere, TimeThere, Skips};
 use crate::Bits;
 use crate::Coded;
 use crate::Timed;
@@ -53,7 +53,7 @@ pub fn past(text: &[u8], from: usize) -> usize
 // ---- bits
 
 // 0 or 1.
-pub fn is_known(b: u8) -> bool
+fn is_known(b: u8) -> bool
     ensures { λ r. ⌜ r ≡ (eqb b 48 || eqb b 49) ⌝ }
 {
     if b == 48 {
@@ -62,14 +62,19 @@ pub fn is_known(b: u8) -> bool
     b == 49
 }
 
-fn bits_with(whole: bool, end: usize, number: u64) -> Bits
-    ensures { λ r. ⌜ r ≡ bitsWith whole end number ⌝ }
+fn bits_with(whole: bool, known: bool, end: usize, number: u64) -> Bits
+    ensures { λ r. ⌜ r ≡ bitsWith whole known end number ⌝ }
 {
-    Bits { whole, end, number }
+    Bits {
+        whole,
+        known,
+        end,
+        number,
+    }
 }
 
-pub fn ones(text: &[u8], from: usize) -> Bits
-    ensures { λ r. ⌜ Ones (now (text .entry)) from r ⌝ }
+fn ones(text: &[u8], from: usize) -> Bits
+    ensures { λ r. ⌜ BitsThere (now (text .entry)) from r ⌝ }
 {
     let mut number = 0u64;
     let mut i = from;
@@ -81,7 +86,37 @@ pub fn ones(text: &[u8], from: usize) -> Bits
         number = scanning::with_bit(number, b);
         i += 1;
     }
-    bits_with(is_end(text, i), i, number)
+    bits_with(is_end(text, i), true, i, number)
+}
+
+// With x and z among them.
+fn mixed(text: &[u8], from: usize) -> Bits
+    ensures { λ r. ⌜ BitsThere (now (text .entry)) from r ⌝ }
+{
+    let mut number = 0u64;
+    let mut known = true;
+    let mut i = from;
+    while i < text.len() {
+        let b = text[i];
+        if !scanning::is_bit(b) {
+            break;
+        }
+        number = scanning::with_bit(number, b);
+        known = scanning::still_known(known, b);
+        i += 1;
+    }
+    bits_with(is_end(text, i), known, i, number)
+}
+
+// Most are 0 and 1.
+pub fn bits(text: &[u8], from: usize) -> Bits
+    ensures { λ r. ⌜ BitsThere (now (text .entry)) from r ⌝ }
+{
+    let b = ones(text, from);
+    if b.whole {
+        return b;
+    }
+    mixed(text, from)
 }
 
 // ---- codes

@@ -72,8 +72,8 @@ loop-again c =
     _ (put .before .vector-at .result) (put .placed .result) refl (sym (is .before .is-binary .ensures) ∙ is .if1 .taken) (vector took)
     (put .placed .ensures) (not-false _ (took .if2 .left)))
 
-is-known-requires : tie.Need-is-known-requires Inv-loop μ-loop
-is-known-requires c κs = search needs
+is-bit-requires : tie.Need-is-bit-requires Inv-loop μ-loop
+is-bit-requires c κs = search needs
 
 add-code-at : tie.Need-add-code-at Inv-loop μ-loop
 add-code-at c = omega arith
@@ -85,9 +85,7 @@ is-coded-requires : tie.Need-is-coded-requires Inv-loop μ-loop
 is-coded-requires c κs = search needs
 
 with-level-requires : tie.Need-with-level-requires Inv-loop μ-loop
-with-level-requires c κs =
-    let known = c .before .before .before in
-    sym (known .before .is-known .ensures) ∙ known .if3 .taken
+with-level-requires c κs = search needs
 
 skip-requires-2 : tie.Need-skip-requires-2 Inv-loop μ-loop
 skip-requires-2 c κs = search needs
@@ -106,15 +104,15 @@ loop-again-2 : tie.Need-loop-again-2 Inv-loop μ-loop
 loop-again-2 c =
     let coded = c .before .before .before in
     let code = coded .before in
-    let known = code .before in
-    let inside = known .before .before .before .before .before in
+    let bit = code .before in
+    let inside = bit .before .before .before .before .before in
     let at = inside .before in
     let start = at .before .before .before .before .before in
     let l = at .loop in
     rw (c .before .with-level .ensures)
     (follows-then _ (l .inv)
     (quiet-level _ (l .i) (inside .loop-test .taken) (start .args .r) (start .pre .0) (start .pre .1) (l .now) (l .last) (l .time) (l .up)
-    _ (code .code-at .result) (c .skip2 .result) refl (sym (known .before .is-known .ensures) ∙ known .if3 .taken) (code .code-at .ensures)
+    _ (code .code-at .result) (c .skip2 .result) refl (sym (bit .before .is-bit .ensures) ∙ bit .if3 .taken) (code .code-at .ensures)
     (passed (coded .is-coded .ensures) (c .before .before .if4 .left)) (c .skip2 .ensures)))
 
 add-quiet-time : tie.Need-add-quiet-time Inv-loop μ-loop
@@ -196,7 +194,7 @@ quiet-spec =
     placed-requires
     loop-less
     loop-again
-    is-known-requires
+    is-bit-requires
     add-code-at
     code-at-requires
     is-coded-requires
