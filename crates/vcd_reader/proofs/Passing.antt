@@ -3,25 +3,28 @@
 --   ends-here, ends-nowhere                $end is found, or the text is over
 --   passed-by                              a word after which others are skipped, up to their $end
 --   reads-comment, reads-skipped           the words after which others are skipped
+--   reads-end, reads-dump                  the words that end and begin a block
+--   turns-by, turns-comment                these words and comments, where changes may stand
 use Prim.Native.Nat.{ℕ, _+_, _<_, _≤_}
 use mathlib.Core.Path.{_≡_, refl, sym, ap, subst, _∙_}
 use mathlib.Core.List.{List, []}
-use mathlib.Core.Bool.{Bool, true, false, cond}
+use mathlib.Core.Bool.{Bool, true, false, not, _&&_, cond}
 use lib.ListN.{length, getD}
 use native.Mathlib.Omega.{arith}
-use borrow.Author.Tests.{eq-eqb}
-use Rattle.lists.proofs.Bools.{clash}
+use borrow.Author.Tests.{eq-eqb, not-true}
+use Rattle.lists.proofs.Bools.{and-l, and-r, clash}
 use Rattle.recording.specs.declared.Place.{Place}
-use Rattle.recording.specs.declared.Place.the-variants.{Definition, SkipDefinition, Body, SkipBody}
+use Rattle.recording.specs.declared.Place.the-variants.{Definition, SkipDefinition, Body, SkipBody, Block}
 use Rattle.recording.specs.declared.Reader.{Reader}
 use Rattle.recording.specs.Words.{separator, isText, bytesOf, wordAt}
 use Rattle.recording.specs.Records.{at, only}
-use Rattle.recording.specs.Reading.{skipping, isSkipped, readDefinition, readBody, readAt, readWord}
+use Rattle.recording.specs.Reading.{skipping, isSkipped, startsTime, isDump, readDefinition, readBody, readBlock, readAt, readWord}
 use Rattle.vcd_words.proofs.Spells.{same-eq}
 use Rattle.vcd_reader.specs.declared.Ended.{Ended}
+use Rattle.vcd_reader.specs.declared.Turned.{Turned}
 use Rattle.vcd_reader.specs.Advances.{Follows}
 use Rattle.vcd_reader.specs.Runs.{wordFrom, Skips}
-use Rattle.vcd_reader.specs.Skipping.{endedWith, Spelled, Passes, PassedBy, SkipsTo, ToEnd}
+use Rattle.vcd_reader.specs.Skipping.{endedWith, Spelled, opensBlock, Passes, PassedBy, SkipsTo, ToEnd, changePlace, turnedWith, Turns}
 use Rattle.vcd_reader.proofs.Follows.{follows-then, follows-skips, follows-word, word-moves}
 use Rattle.vcd_reader.proofs.Reaching.{word-inside, word-starts}
 
@@ -49,6 +52,24 @@ module _ (r : Reader) (i : ℕ) (w : List ℕ) (good : r .fault .number ≡ 0) w
   pub reads-skipped : r .place ≡ Definition → isSkipped w ≡ true → readWord r (wordAt i w) ≡ only (at SkipDefinition r)
   unfolding readWord readAt readDefinition
   reads-skipped pl e = rw (eq-eqb _ _ good, pl, e)
+
+  pub reads-end : r .place ≡ Block → isText "$end" w ≡ true → readWord r (wordAt i w) ≡ only (at Body r)
+  unfolding readWord readAt readBlock
+  reads-end pl e = rw (eq-eqb _ _ good, pl, e)
+
+  pub reads-dump : r .place ≡ Body → opensBlock w ≡ true → readWord r (wordAt i w) ≡ only (at Block r)
+  unfolding readWord readAt readBody
+  reads-dump pl e =
+      let no-time = and-l (not (startsTime w)) (not (isText "$comment" w) && isDump w) e in
+      let rest = and-r (not (startsTime w)) (not (isText "$comment" w) && isDump w) e in
+      let no-comment = and-l (not (isText "$comment" w)) (isDump w) rest in
+      rw (
+        eq-eqb _ _ good,
+        pl,
+        not-true (startsTime w) no-time,
+        not-true (isText "$comment" w) no-comment,
+        and-r (not (isText "$comment" w)) (isDump w) rest,
+      )
 
 pub skips-body : (p : Place) → p ≡ SkipBody → SkipsTo p Body
 unfolding readAt
@@ -134,3 +155,32 @@ module _ (t : List ℕ) (i : ℕ) (p q : Place) (skips : SkipsTo q p) (some : wo
 
 pub no-passed : (p : Place) (t : List ℕ) (i : ℕ) (e : Ended) → e .found ≡ false → PassedBy p t i e
 no-passed p t i e f = record { moves = λ g. clash g f; passes = λ g. clash g f }
+
+-- ---- where changes may stand
+
+module _ (t : List ℕ) (i : ℕ) (block : Bool) (k : Turned) where
+  pub turns-by :
+      (found : Bool) (end : ℕ) (next : Bool) → k ≡ turnedWith found end next →
+      (found ≡ true → wordFrom t i ≡ [] → ⊥) → (found ≡ true → end ≡ i + length (wordFrom t i)) →
+      (found ≡ true → (r : Reader) → r .place ≡ changePlace block → r .fault .number ≡ 0 →
+      readWord r (wordAt i (wordFrom t i)) ≡ only (at (changePlace next) r)) →
+      Turns t i block k
+  turns-by found end next e some ends reads =
+      rw e
+      (record {
+        moves = λ f. word-moves t i (word-inside t i (some f)) (word-starts t i (some f)) end (ends f);
+        follows = λ f r pl good.
+            follows-word t i (word-inside t i (some f)) (word-starts t i (some f)) end (ends f) r (at (changePlace next) r)
+            (reads f r pl good);
+      })
+
+  pub turns-comment :
+      block ≡ false → (e : Ended) → k ≡ turnedWith true (e .end) false → e .found ≡ true → PassedBy Body t i e → Turns t i block k
+  turns-comment outside e q f p =
+      rw q
+      (record {
+        moves = λ g. p .moves f;
+        follows = λ g r pl good.
+            let here = pl ∙ ap changePlace outside in
+            subst (λ (x : Reader). Follows t i r (e .end) x) (ap (λ (x : Place). at x r) here) (p .passes f r here good);
+      })

@@ -87,9 +87,9 @@ known-bit b e = go (flag (eqb b 48))
     go (on f) = rw f
     go (off f) = rw (f, or-off (eqb b 48) (eqb b 49) e f)
 
--- a byte that is a bit is no other
-pub bit-other : (b c : ℕ) → isBit b ≡ true → isBit c ≡ false → eqb b c ≡ false
-bit-other b c e f = ne-eqb b c (λ g. clash e (ap isBit g ∙ f))
+-- a byte that passes a test is none that doesn't
+pub other-byte : (test : ℕ → Bool) (b c : ℕ) → test b ≡ true → test c ≡ false → eqb b c ≡ false
+other-byte test b c e f = ne-eqb b c (λ g. clash e (ap test g ∙ f))
 
 pub bit-range : (b : ℕ) → isBit b ≡ true → 32 < b
 bit-range b e = go (flag (ltb 32 b))

@@ -1,6 +1,6 @@
 -- Changes and times that give no command, and the word that gives one. A helper of contracts; nothing here needs to be believed.
 -- Assumes nothing.
---   changedTo r ..    a reader in the place Body with other values, time and level
+--   changedTo block r ..    a reader where changes may stand, with other values, time and level
 --   Places            the variable of a code takes a vector
 --   Takes r time      the word # with this time gives a command
 use Prim.Native.Nat.{ℕ, suc, _+_, _<_, _≤_}
@@ -9,7 +9,7 @@ use mathlib.Core.List.{List, _∷_}
 use mathlib.Core.Bool.{Bool, true, false, not, _&&_, cond}
 use lib.ListN.{length, getD}
 use lib.Dec.{eqb}
-use Rattle.recording.specs.declared.Place.the-variants.{Body}
+use Rattle.recording.specs.declared.Place.{Place}
 use Rattle.recording.specs.declared.Signal.the-variants.{Stb}
 use Rattle.recording.specs.declared.Value.{Value}
 use Rattle.recording.specs.declared.Vector.{Vector}
@@ -24,9 +24,11 @@ use Rattle.vcd_words.specs.Partial.{bitValue}
 use Rattle.vcd_reader.specs.declared.Given.{Given}
 use Rattle.vcd_reader.specs.declared.Placed.{Placed}
 use Rattle.vcd_reader.specs.declared.Passed.{Passed}
+use Rattle.vcd_reader.specs.declared.Standing.{Standing}
 use Rattle.vcd_reader.specs.declared.Timed.{Timed}
 use Rattle.vcd_reader.specs.Advances.{wordsFrom, Follows}
 use Rattle.vcd_reader.specs.Runs.{wordFrom, TimeThere}
+use Rattle.vcd_reader.specs.Skipping.{changePlace}
 
 -- ---- vectors
 
@@ -63,8 +65,8 @@ withVariables vs r = readerWith (r .place) (r .pending) vs (r .stamp) (r .taken)
 pub record Places (vs : Variables) (code : ℕ) (v : Vector) (p : Placed) : Type 0 where
   pub some : p .found ≡ true → 0 < code
   pub takes :
-      p .found ≡ true → (r : Reader) (i : ℕ) (w : List ℕ) → r .variables ≡ vs → r .pending .vector ≡ v → code ≡ codeOf w →
-      readVectorCode Body (vectorSignal r w) r (wordAt i w) ≡ withVariables (p .variables) (at Body r)
+      p .found ≡ true → (next : Place) (r : Reader) (i : ℕ) (w : List ℕ) → r .variables ≡ vs → r .pending .vector ≡ v →
+      code ≡ codeOf w → readVectorCode next (vectorSignal r w) r (wordAt i w) ≡ withVariables (p .variables) (at next r)
 
 -- ---- stb
 
@@ -82,17 +84,20 @@ pub record QuietTime (t : List ℕ) (from : ℕ) (opened : Bool) (level : Value)
 
 -- ---- the reader
 
-abbrev pub passedWith : ℕ → Reader → Passed
-passedWith end r = record { end = end; reader = r }
+abbrev pub passedWith : ℕ → Reader → Bool → Passed
+passedWith end r block = record { end = end; reader = r; block = block }
 
-abbrev pub changedTo : Reader → Variables → Vector → ℕ → Bool → Reader
-changedTo r vs v time up =
-    readerWith (r .place) (pendingWith (r .pending .width) (r .pending .code) v) vs (stampWith (r .stamp .opened) time up) (r .taken)
+abbrev pub standingWith : Bool → Bool → Standing
+standingWith changes block = record { changes = changes; block = block }
+
+abbrev pub changedTo : Bool → Reader → Variables → Vector → ℕ → Bool → Reader
+changedTo block r vs v time up =
+    readerWith (changePlace block) (pendingWith (r .pending .width) (r .pending .code) v) vs (stampWith (r .stamp .opened) time up) (r .taken)
     (r .fault)
 
 pub record Quiet (t : List ℕ) (from : ℕ) (r : Reader) (p : Passed) : Type 0 where
   pub follows : Follows t from r (p .end) (p .reader)
-  pub place : p .reader .place ≡ Body
+  pub place : p .reader .place ≡ changePlace (p .block)
   pub good : p .reader .fault .number ≡ 0
 
 -- ---- the word that gives a command

@@ -1,10 +1,10 @@
-// Changes, times that give no command, and comments, in a place where a change may stand.
+// Changes, times that give no command, comments, and the ends of blocks, in a place where a change may stand.
 ghost use mathlib.Core.Path.{_≡_};
 ghost use mathlib.Core.Bool.{not, _&&_};
 ghost use Rattle.recording.specs.Records.{variableWith};
 ghost use lib.ListN.{length};
 ghost use lib.Dec.{ltb, eqb};
-ghost use Rattle.recording.specs.declared.Place.the-variants.{Body};
+ghost use Rattle.vcd_reader.specs.Skipping.{changePlace};
 ghost use Rattle.vcd_reader.specs.Changes.{givenWith, bitsVector, placedWith, passedWith, changedTo, withLevel, VectorThere, Places, QuietTime, Quiet};
 use crate::Given;
 use crate::Passed;
@@ -12,6 +12,7 @@ use crate::Placed;
 use crate::Timed;
 use crate::runs;
 use crate::skipping;
+use recording::Place;
 use recording::Reader;
 use recording::Value;
 use recording::Variable;
@@ -158,17 +159,29 @@ fn quiet_time(text: &[u8], from: usize, opened: bool, level: Value, up: bool, ti
     t
 }
 
+// A time may stand here, and ends an open stamp.
+fn ends_stamp(opened: bool, block: bool) -> bool
+    ensures { λ r. ⌜ r ≡ (opened && not block) ⌝ }
+{
+    if block {
+        return false;
+    }
+    opened
+}
+
 // ---- all of them
 
-// Whole changes, times that give no command, and comments, as far as they go. What stops them is left to what reads any word.
-pub fn quiet(text: &[u8], from: usize, r: Reader) -> Passed
-    requires { ⌜ (r .place ≡ Body) × (r .fault .number ≡ 0) ⌝ }
+// Whole changes, times that give no command, comments, and the ends of blocks, as far as they go. What stops them is left to what reads
+// any word.
+pub fn quiet(text: &[u8], from: usize, r: Reader, inside: bool) -> Passed
+    requires { ⌜ (r .place ≡ changePlace inside) × (r .fault .number ≡ 0) ⌝ }
     ensures { λ p. ⌜ Quiet (now (text .entry)) from r p ⌝ }
 {
     let mut now = r.variables;
     let mut last = r.pending.vector;
     let mut time = r.stamp.time;
     let mut up = r.stamp.up;
+    let mut block = inside;
     let mut i = runs::skip(text, from);
     while i < text.len() {
         let b = text[i];
@@ -189,7 +202,8 @@ pub fn quiet(text: &[u8], from: usize, r: Reader) -> Passed
             now = with_level(now, b);
             i = runs::skip(text, c.end);
         } else if b == 35 {
-            let t = quiet_time(text, i + 1, r.stamp.opened, now.stb.value, up, time);
+            let opened = ends_stamp(r.stamp.opened, block);
+            let t = quiet_time(text, i + 1, opened, now.stb.value, up, time);
             if !t.whole {
                 break;
             }
@@ -197,26 +211,48 @@ pub fn quiet(text: &[u8], from: usize, r: Reader) -> Passed
             time = t.time;
             i = runs::skip(text, t.end);
         } else {
-            let e = skipping::comment(text, i);
-            if !e.found {
+            let k = skipping::turn(text, i, block);
+            if !k.found {
                 break;
             }
-            i = runs::skip(text, e.end);
+            block = k.block;
+            i = runs::skip(text, k.end);
         }
     }
-    changed(i, r, now, last, time, up)
+    changed(i, r, now, last, time, up, block)
 }
 
-// The reader with what changes and times give it.
-fn changed(end: usize, r: Reader, vs: Variables, v: Vector, time: u64, up: bool) -> Passed
-    ensures { λ p. ⌜ p ≡ passedWith end (changedTo r vs v time up) ⌝ }
+fn place_of(block: bool) -> Place
+    ensures { λ r. ⌜ r ≡ changePlace block ⌝ }
+{
+    if block {
+        return Place::Block;
+    }
+    Place::Body
+}
+
+// The reader with what changes and times give it, in a block or not.
+fn changed(
+    end: usize,
+    r: Reader,
+    vs: Variables,
+    v: Vector,
+    time: u64,
+    up: bool,
+    block: bool,
+) -> Passed
+    ensures { λ p. ⌜ p ≡ passedWith end (changedTo block r vs v time up) block ⌝ }
 {
     let mut pending = r.pending;
     pending.vector = v;
-    let mut next = r;
+    let mut next = readers::at(r, place_of(block));
     next.variables = vs;
     next.pending = pending;
     next.stamp.time = time;
     next.stamp.up = up;
-    Passed { end, reader: next }
+    Passed {
+        end,
+        reader: next,
+        block,
+    }
 }

@@ -5,7 +5,7 @@ ghost use mathlib.Core.Bool.{true};
 ghost use lib.Dec.{ltb};
 ghost use Rattle.recording.specs.Words.{all, bytesOf};
 ghost use Rattle.recording.specs.Reading.{isSkipped};
-ghost use Rattle.vcd_reader.specs.Skipping.{endedWith, Spelled, Told};
+ghost use Rattle.vcd_reader.specs.Skipping.{endedWith, Spelled, Told, opensBlock};
 use crate::Ended;
 use crate::runs;
 
@@ -45,6 +45,25 @@ pub fn comment_at(text: &[u8], at: usize) -> Ended
     ensures { λ r. ⌜ Spelled (now (text .entry)) at (bytesOf "$comment") r ⌝ }
 {
     spelled(text, at, b"$comment")
+}
+
+// The first word of a block.
+pub fn dump_at(text: &[u8], at: usize) -> Ended
+    ensures { λ r. ⌜ Told opensBlock (now (text .entry)) at r ⌝ }
+{
+    let vars = spelled(text, at, b"$dumpvars");
+    if vars.found {
+        return vars;
+    }
+    let all = spelled(text, at, b"$dumpall");
+    if all.found {
+        return all;
+    }
+    let on = spelled(text, at, b"$dumpon");
+    if on.found {
+        return on;
+    }
+    spelled(text, at, b"$dumpoff")
 }
 
 // The first word of a definition that is skipped.

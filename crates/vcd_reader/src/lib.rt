@@ -51,10 +51,24 @@ pub struct Placed {
     pub variables: Variables,
 }
 
-// Where words are read that give no command, and the reader after them.
+// Whether a word is found that begins or ends a block, or a comment; where it ends; and whether it begins a block.
+pub struct Turned {
+    pub found: bool,
+    pub end: usize,
+    pub block: bool,
+}
+
+// Where words are read that give no command, the reader after them, and whether it is in a block.
 pub struct Passed {
     pub end: usize,
     pub reader: Reader,
+    pub block: bool,
+}
+
+// Whether changes may stand in a place, and whether it is in a block.
+pub struct Standing {
+    pub changes: bool,
+    pub block: bool,
 }
 
 // Where the reading of a text has come: the reader, the offset at which it goes on, and the command that its last word gave, with the

@@ -1,8 +1,9 @@
-// Words that are skipped up to the next $end.
+// Words that are skipped up to the next $end, and the words that begin or end a block.
 ghost use mathlib.Core.Path.{_≡_};
-ghost use Rattle.vcd_reader.specs.Skipping.{ToEnd, PassedBy, Passes};
+ghost use Rattle.vcd_reader.specs.Skipping.{ToEnd, PassedBy, Passes, turnedWith, Turns};
 ghost use Rattle.recording.specs.declared.Place.the-variants.{Definition, Body};
 use crate::Ended;
+use crate::Turned;
 use crate::keywords;
 use crate::runs;
 
@@ -22,7 +23,7 @@ pub fn to_end(text: &[u8], from: usize) -> Ended
 }
 
 // A comment up to its $end.
-pub fn comment(text: &[u8], at: usize) -> Ended
+fn comment(text: &[u8], at: usize) -> Ended
     ensures { λ r. ⌜ PassedBy Body (now (text .entry)) at r ⌝ }
 {
     let first = keywords::comment_at(text, at);
@@ -30,6 +31,28 @@ pub fn comment(text: &[u8], at: usize) -> Ended
         return to_end(text, first.end);
     }
     first
+}
+
+fn turned_with(found: bool, end: usize, block: bool) -> Turned
+    ensures { λ r. ⌜ r ≡ turnedWith found end block ⌝ }
+{
+    Turned { found, end, block }
+}
+
+// In a block its end; elsewhere a comment, or the first word of a block.
+pub fn turn(text: &[u8], at: usize, block: bool) -> Turned
+    ensures { λ r. ⌜ Turns (now (text .entry)) at block r ⌝ }
+{
+    if block {
+        let e = keywords::end_at(text, at);
+        return turned_with(e.found, e.end, false);
+    }
+    let e = comment(text, at);
+    if e.found {
+        return turned_with(true, e.end, false);
+    }
+    let d = keywords::dump_at(text, at);
+    turned_with(d.found, d.end, true)
 }
 
 // A definition that is skipped, up to its $end.

@@ -10,21 +10,24 @@ use Rattle.vcd_words.proofs.Asked.{passed}
 use Rattle.vcd_reader.specs.Advances.{Follows}
 use Rattle.vcd_reader.specs.Changes.{changedTo, CodedVector}
 use Rattle.vcd_reader.proofs.Follows.{follows-then, follows-skips}
-use Rattle.vcd_reader.proofs.Changing.{some-code, quiet-vector, quiet-level, quiet-time}
+use Rattle.vcd_reader.proofs.Changing.{some-code, quiet-start, quiet-vector, quiet-level, quiet-time}
 use Rattle.vcd_reader.proofs.changes.quiet.Statement.{statement}
 use Rattle.vcd_reader.proofs.changes.quiet.Tie as tie
 
 abbrev Inv-loop : tie.InvT-loop
-Inv-loop text from r now₀ last₀ time₀ up₀ i₀ now last time up i = Follows text from r i (changedTo r now last time up)
+Inv-loop text from r inside now₀ last₀ time₀ up₀ block₀ i₀ now last time up block i =
+    Follows text from r i (changedTo block r now last time up)
 
 abbrev μ-loop : tie.MeasureT-loop
-μ-loop text from r now₀ last₀ time₀ up₀ i₀ now last time up i = length text - i
+μ-loop text from r inside now₀ last₀ time₀ up₀ block₀ i₀ now last time up block i = length text - i
 
 skip-requires : tie.Need-skip-requires Inv-loop μ-loop
 skip-requires c κs = search needs
 
 loop-holds : tie.Need-loop-holds Inv-loop μ-loop
-loop-holds c = follows-skips _ _ _ _ (c .skip .ensures)
+loop-holds c =
+    let start = c .before .before .before .before in
+    quiet-start _ _ _ (start .args .r) (start .args .inside) (start .pre .0) (c .skip .ensures)
 
 shared-slice-read-b : tie.Need-shared-slice-read-b Inv-loop μ-loop
 shared-slice-read-b c = omega arith
@@ -68,7 +71,7 @@ loop-again c =
     let start = at .before .before .before .before .before in
     let l = at .loop in
     follows-then _ (l .inv)
-    (quiet-vector _ (l .i) (inside .loop-test .taken) (start .args .r) (start .pre .0) (start .pre .1) (l .now) (l .last) (l .time) (l .up)
+    (quiet-vector _ (l .i) (inside .loop-test .taken) (start .args .r) (start .pre .1) (l .block) (l .now) (l .last) (l .time) (l .up)
     _ (put .before .vector-at .result) (put .placed .result) refl (sym (is .before .is-binary .ensures) ∙ is .if1 .taken) (vector took)
     (put .placed .ensures) (not-false _ (took .if2 .left)))
 
@@ -111,12 +114,15 @@ loop-again-2 c =
     let l = at .loop in
     rw (c .before .with-level .ensures)
     (follows-then _ (l .inv)
-    (quiet-level _ (l .i) (inside .loop-test .taken) (start .args .r) (start .pre .0) (start .pre .1) (l .now) (l .last) (l .time) (l .up)
+    (quiet-level _ (l .i) (inside .loop-test .taken) (start .args .r) (start .pre .1) (l .block) (l .now) (l .last) (l .time) (l .up)
     _ (code .code-at .result) (c .skip2 .result) refl (sym (bit .before .is-bit .ensures) ∙ bit .if3 .taken) (code .code-at .ensures)
     (passed (coded .is-coded .ensures) (c .before .before .if4 .left)) (c .skip2 .ensures)))
 
 add-quiet-time : tie.Need-add-quiet-time Inv-loop μ-loop
 add-quiet-time c = omega arith
+
+ends-stamp-requires : tie.Need-ends-stamp-requires Inv-loop μ-loop
+ends-stamp-requires c κs = search needs
 
 quiet-time-requires : tie.Need-quiet-time-requires Inv-loop μ-loop
 quiet-time-requires c κs = search needs
@@ -129,25 +135,27 @@ loop-less-3 c =
     let whole = c .before .before in
     let asked = whole .before .before in
     let there = asked .quiet-time .ensures .there .end (not-false _ (whole .if6 .left)) in
-    let inside = asked .before .before .before .before .before .before .before in
+    let inside = asked .before .before .before .before .before .before .before .before in
     omega (arith, there, c .skip3 .ensures .moves, inside .loop-test .taken)
 
 loop-again-3 : tie.Need-loop-again-3 Inv-loop μ-loop
 loop-again-3 c =
     let whole = c .before .before in
     let asked = whole .before .before in
-    let is = asked .before in
+    let ends = asked .before in
+    let is = ends .before in
     let inside = is .before .before .before .before .before .before in
     let at = inside .before in
     let start = at .before .before .before .before .before in
     let l = at .loop in
     follows-then _ (l .inv)
-    (quiet-time _ (l .i) (inside .loop-test .taken) (start .args .r) (start .pre .0) (start .pre .1) (l .now) (l .last) (l .time) (l .up)
-    (asked .quiet-time .result) (c .skip3 .result) (is .if5 .taken) (asked .quiet-time .ensures) (not-false _ (whole .if6 .left))
+    (quiet-time _ (l .i) (inside .loop-test .taken) (start .args .r) (start .pre .1) (l .block) (l .now) (l .last) (l .time) (l .up)
+    (asked .quiet-time .result) (c .skip3 .result) (ends .ends-stamp .result) (is .if5 .taken) (ends .ends-stamp .ensures)
+    (asked .quiet-time .ensures) (not-false _ (whole .if6 .left))
     (c .skip3 .ensures))
 
-comment-requires : tie.Need-comment-requires Inv-loop μ-loop
-comment-requires c κs = search needs
+turn-requires : tie.Need-turn-requires Inv-loop μ-loop
+turn-requires c κs = search needs
 
 skip-requires-4 : tie.Need-skip-requires-4 Inv-loop μ-loop
 skip-requires-4 c κs = search needs
@@ -158,7 +166,7 @@ loop-less-4 c =
     let passed = found .before .before in
     let inside = passed .before .before .before .before .before .before .before in
     omega
-    (arith, passed .comment .ensures .moves (not-false _ (found .if7 .left)), c .skip4 .ensures .moves, inside .loop-test .taken)
+    (arith, passed .turn .ensures .moves (not-false _ (found .if7 .left)), c .skip4 .ensures .moves, inside .loop-test .taken)
 
 loop-again-4 : tie.Need-loop-again-4 Inv-loop μ-loop
 loop-again-4 c =
@@ -167,7 +175,7 @@ loop-again-4 c =
     let at = passed .before .before .before .before .before .before .before .before in
     let start = at .before .before .before .before .before in
     follows-then _ (at .loop .inv)
-    (follows-then _ (passed .comment .ensures .passes (not-false _ (found .if7 .left)) _ (start .pre .0) (start .pre .1))
+    (follows-then _ (passed .turn .ensures .follows (not-false _ (found .if7 .left)) _ refl (start .pre .1))
     (follows-skips _ _ _ _ (c .skip4 .ensures)))
 
 changed-requires : tie.Need-changed-requires Inv-loop μ-loop
@@ -177,7 +185,7 @@ returns : tie.Need-returns Inv-loop μ-loop
 returns c =
     let at = c .before .before in
     let start = at .before .before .before .before .before in
-    rw (c .changed .ensures) (record { follows = at .loop .inv; place = start .pre .0; good = start .pre .1 })
+    rw (c .changed .ensures) (record { follows = at .loop .inv; place = refl; good = start .pre .1 })
 
 pub quiet-spec : {M : Type 1} → statement M
 quiet-spec =
@@ -202,12 +210,13 @@ quiet-spec =
     skip-requires-2
     loop-less-2
     loop-again-2
+    ends-stamp-requires
     add-quiet-time
     quiet-time-requires
     skip-requires-3
     loop-less-3
     loop-again-3
-    comment-requires
+    turn-requires
     skip-requires-4
     loop-less-4
     loop-again-4
