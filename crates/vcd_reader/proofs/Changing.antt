@@ -146,7 +146,8 @@ module _ (t : List ℕ) (from : ℕ) where
   pub coded-vector :
       (b : Bits) (i : ℕ) (c : Coded) (v : Vector) (end : ℕ) (g : Given) →
       BitsThere t from b → b .whole ≡ true → from < b .end → b .end - from ≤ 255 → Skips t (b .end) i → CodeThere t i c →
-      v ≡ bitsVector (b .end - from) (b .known) (b .number % 65536) → Skips t (c .end) end → g ≡ givenWith end (c .code) v → VectorThere t from g
+      v ≡ bitsVector (b .end - from) (b .known) (b .number % 65536) → Skips t (c .end) end → g ≡ givenWith end (c .code) v →
+      VectorThere t from g
   coded-vector b i c v end g o whole more short s k ev s′ eg = rw eg (λ h. go h (o .end whole) (o .number whole) (k .end h) (k .code h))
     where
       go : 0 < c .code → b .end ≡ from + length (wordFrom t from) →
@@ -315,7 +316,8 @@ module _ (t : List ℕ) (i : ℕ) (h : i < length t) where
         let r₂ = withVariables (p .variables) (at (changePlace block) (withVector (g .vector) r)) in
         follows-then t
         (follows-first b eb (binary-range b k) mid r r₁ refl
-        (read-vector r i u good block pl b k (v .bits) ∙ ap (λ (x : Vector). only (at (codePlace block) (withVector x r))) (sym (v .vector))))
+        (read-vector r i u good block pl b k (v .bits)
+        ∙ ap (λ (x : Vector). only (at (codePlace block) (withVector x r))) (sym (v .vector))))
         (follows-then t (follows-passes t mid (v .at) r₁ (v .later) (λ x. omega (arith, v .inside)) (v .passes))
         (follows-then t
         (follows-word t (v .at) (v .inside) (v .starts) over refl r₁ r₂

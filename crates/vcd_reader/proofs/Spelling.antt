@@ -64,7 +64,8 @@ module _ (t : List ℕ) (from : ℕ) (letters : List ℕ) where
 
     pub spelled-more : i < length t → getD t i 0 ≡ getD letters j 0 → SpelledTo (i + 1) (j + 1)
     spelled-more h e =
-        let high : 32 < getD letters j 0 = ltb-true 32 (getD letters j 0) (and-l (ltb 32 (getD letters j 0)) (all (ltb 32) (drop (j + 1) letters)) rest-above) in
+        let first = and-l (ltb 32 (getD letters j 0)) (all (ltb 32) (drop (j + 1) letters)) rest-above in
+        let high : 32 < getD letters j 0 = ltb-true 32 (getD letters j 0) first in
         let starts : separator (getD t i 0) ≡ false = above-separators (getD t i 0) (omega arith) in
         record {
           inside = within-more t from i (o .inside) h starts;

@@ -92,8 +92,8 @@ standingWith changes block = record { changes = changes; block = block }
 
 abbrev pub changedTo : Bool → Reader → Variables → Vector → ℕ → Bool → Reader
 changedTo block r vs v time up =
-    readerWith (changePlace block) (pendingWith (r .pending .width) (r .pending .code) v) vs (stampWith (r .stamp .opened) time up) (r .taken)
-    (r .fault)
+    readerWith (changePlace block) (pendingWith (r .pending .width) (r .pending .code) v) vs (stampWith (r .stamp .opened) time up)
+    (r .taken) (r .fault)
 
 pub record Quiet (t : List ℕ) (from : ℕ) (r : Reader) (p : Passed) : Type 0 where
   pub follows : Follows t from r (p .end) (p .reader)

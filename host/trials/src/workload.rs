@@ -28,7 +28,7 @@ $enddefinitions $end
 
 /// What a recording is mostly made of, besides commands.
 #[derive(Clone, Copy, Debug, PartialEq, Eq)]
-pub enum Kind {
+pub enum Mostly {
     /// Six changes and two times for each command, as in document 01's example.
     Plain,
     /// A comment before each command, some ten times as long as its changes.
@@ -45,30 +45,30 @@ pub enum Kind {
     Lines,
 }
 
-impl Kind {
+impl Mostly {
     /// All of them, by the names that the benchmark has for them.
-    pub const NAMED: [(&'static str, Kind); 7] = [
-        ("plain", Kind::Plain),
-        ("comments", Kind::Comments),
-        ("definitions", Kind::Definitions),
-        ("blocks", Kind::Blocks),
-        ("unknown", Kind::Unknown),
-        ("line-ends", Kind::LineEnds),
-        ("lines", Kind::Lines),
+    pub const NAMED: [(&'static str, Mostly); 7] = [
+        ("plain", Mostly::Plain),
+        ("comments", Mostly::Comments),
+        ("definitions", Mostly::Definitions),
+        ("blocks", Mostly::Blocks),
+        ("unknown", Mostly::Unknown),
+        ("line-ends", Mostly::LineEnds),
+        ("lines", Mostly::Lines),
     ];
 }
 
 /// Commands as a recording in the form of document 01's example: six changes and two times each, an unused value as 0. Of an argument that
 /// is too large for its variable the lower bits are recorded.
 pub fn recording(commands: &[Command]) -> String {
-    recording_of(Kind::Plain, 0, commands)
+    recording_of(Mostly::Plain, 0, commands)
 }
 
 /// Commands as a recording of this kind, which a seed determines; the same commands are read from all kinds.
-pub fn recording_of(kind: Kind, seed: u64, commands: &[Command]) -> String {
+pub fn recording_of(kind: Mostly, seed: u64, commands: &[Command]) -> String {
     let random = &mut Random::new(seed);
     let mut text = String::new();
-    if kind == Kind::Definitions {
+    if kind == Mostly::Definitions {
         for _ in commands {
             let word = random.pick(&["$date", "$version", "$comment", "$scope", "$upscope"]);
             text += &skipped(random, word);
@@ -76,32 +76,32 @@ pub fn recording_of(kind: Kind, seed: u64, commands: &[Command]) -> String {
     }
     text += DEFINITIONS;
     for (i, &command) in commands.iter().enumerate() {
-        if kind == Kind::Comments {
+        if kind == Mostly::Comments {
             text += &skipped(random, "$comment");
         }
         let [cmd, core, arg, prio] = values(kind, random, command);
         let changes = format!("b{cmd} \"\nb{core} #\nb{arg} $\nb{prio} %\n");
         let (up, down) = (2 * i, 2 * i + 1);
         let stamps = match kind {
-            Kind::Blocks => {
+            Mostly::Blocks => {
                 let block = random.pick(&["$dumpvars", "$dumpall", "$dumpon", "$dumpoff"]);
                 let all = format!("$dumpall\n0!\n{changes}$end\n");
                 format!("#{up}\n{block}\n{changes}1!\n$end\n#{down}\n{all}{all}")
             }
-            Kind::Unknown => format!("#{up}\nx!\n{changes}1!\n#{down}\nZ!\n0!\n"),
+            Mostly::Unknown => format!("#{up}\nx!\n{changes}1!\n#{down}\nZ!\n0!\n"),
             _ => format!("#{up}\n{changes}1!\n#{down}\n0!\n"),
         };
         text += &stamps;
     }
     match kind {
-        Kind::LineEnds => text.replace('\n', "\r\n"),
-        Kind::Lines => text.replace(' ', "\n"),
+        Mostly::LineEnds => text.replace('\n', "\r\n"),
+        Mostly::Lines => text.replace(' ', "\n"),
         _ => text,
     }
 }
 
 /// The bits of cmd, core, arg and prio for a command.
-fn values(kind: Kind, random: &mut Random, command: Command) -> [String; 4] {
+fn values(kind: Mostly, random: &mut Random, command: Command) -> [String; 4] {
     let (number, at, priority) = numbers(command);
     let for_core = matches!(command, Command::SetCorePriority(..) | Command::Claim(_));
     let with_priority = matches!(
@@ -109,7 +109,7 @@ fn values(kind: Kind, random: &mut Random, command: Command) -> [String; 4] {
         Command::SetCorePriority(..) | Command::SetSourcePriority(..)
     );
     let mut bits = |used: bool, value: u16| match kind {
-        Kind::Unknown if !used => random
+        Mostly::Unknown if !used => random
             .pick(&["x", "z", "X", "0Z1", "x10", "zzzz"])
             .to_string(),
         _ => format!("{:b}", if used { value } else { 0 }),

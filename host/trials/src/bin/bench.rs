@@ -12,7 +12,7 @@ use psic::recording::MAX_COMMANDS;
 use psic::{raw, ANSWER_SIZE, COMMAND_SIZE, STATE_SIZE};
 use psic_reference::recording;
 use psic_reference::records::{Answer, Command, CoreNumber, SourceId};
-use psic_trials::workload::Kind;
+use psic_trials::workload::Mostly;
 use psic_trials::{fast, library, workload};
 
 fn main() {
@@ -61,8 +61,8 @@ fn size(word: &str) -> u16 {
     number(word) as u16
 }
 
-fn kind_of(word: &str) -> Kind {
-    let named = Kind::NAMED.into_iter().find(|&(name, _)| name == word);
+fn kind_of(word: &str) -> Mostly {
+    let named = Mostly::NAMED.into_iter().find(|&(name, _)| name == word);
     named.unwrap_or_else(|| panic!("{word} is no kind")).1
 }
 

@@ -30,4 +30,14 @@ returns-3 : tie.Need-returns-3
 returns-3 c = rw (c .standing-with3 .ensures) (λ e. clash e refl)
 
 pub standing-at-spec : {M : Type 1} → statement M
-standing-at-spec = tie.close (tie.spec enum-told standing-with-requires enum-told-2 standing-with-requires-2 standing-with-requires-3 returns returns-2 returns-3)
+standing-at-spec =
+    tie.close
+    (tie.spec
+    enum-told
+    standing-with-requires
+    enum-told-2
+    standing-with-requires-2
+    standing-with-requires-3
+    returns
+    returns-2
+    returns-3)

@@ -61,7 +61,8 @@ coded-with-requires-2 c κs = search needs
 returns-2 : tie.Need-returns-2 Inv-loop μ-loop
 returns-2 c =
     let l = c .before .before .before .before .loop in
-    code-there _ _ _ (l .code) (l .i) (c .coded-with2 .ensures) (l .inv) (over _ (c .before .before .is-end .ensures) (c .before .if3 .taken))
+    code-there _ _ _ (l .code) (l .i) (c .coded-with2 .ensures) (l .inv)
+    (over _ (c .before .before .is-end .ensures) (c .before .if3 .taken))
 
 coded-with-requires-3 : tie.Need-coded-with-requires-3 Inv-loop μ-loop
 coded-with-requires-3 c κs = search needs

@@ -1,5 +1,5 @@
--- `vcd_reader::runs::skip` meets its contract. The loop's invariant is `Skips` up to i, but for the byte at i. The measure is what is left of the text.
--- Assumes nothing.
+-- `vcd_reader::runs::skip` meets its contract. The loop's invariant is `Skips` up to i, but for the byte at i. The measure is
+-- what is left of the text. Assumes nothing.
 use Prim.Native.Nat.{_-_, _≤_}
 use mathlib.Core.Path.{_≡_, refl, _∙_}
 use lib.ListN.{length}

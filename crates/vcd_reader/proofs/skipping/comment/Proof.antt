@@ -18,7 +18,8 @@ returns c =
     let first = c .before .before .comment-at in
     let is = c .before .if1 .taken in
     let told = sym (first .ensures .found) ∙ is in
-    passed-by _ _ Body SkipBody (skips-body SkipBody refl) (some-word (isText "$comment") _ told refl) (λ r pl good. reads-comment r _ _ good pl told)
+    passed-by _ _ Body SkipBody (skips-body SkipBody refl) (some-word (isText "$comment") _ told refl)
+    (λ r pl good. reads-comment r _ _ good pl told)
     (first .result .end) _ (first .ensures .end is) (c .to-end .ensures)
 
 returns-2 : tie.Need-returns-2

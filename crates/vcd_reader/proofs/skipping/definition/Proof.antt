@@ -18,7 +18,8 @@ returns c =
     let first = c .before .before .skipped-at in
     let is = c .before .if1 .taken in
     let told = first .ensures .found is in
-    passed-by _ _ Definition SkipDefinition (skips-definition SkipDefinition refl) (some-word isSkipped _ told refl) (λ r pl good. reads-skipped r _ _ good pl told)
+    passed-by _ _ Definition SkipDefinition (skips-definition SkipDefinition refl) (some-word isSkipped _ told refl)
+    (λ r pl good. reads-skipped r _ _ good pl told)
     (first .result .end) _ (first .ensures .end is) (c .to-end .ensures)
 
 returns-2 : tie.Need-returns-2

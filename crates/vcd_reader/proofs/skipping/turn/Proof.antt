@@ -50,4 +50,15 @@ returns-3 c =
     (λ f r pl good. reads-dump r _ _ good (pl ∙ ap changePlace outside) (d .ensures .found f))
 
 pub turn-spec : {M : Type 1} → statement M
-turn-spec = tie.close (tie.spec end-at-requires turned-with-requires returns comment-requires turned-with-requires-2 returns-2 dump-at-requires turned-with-requires-3 returns-3)
+turn-spec =
+    tie.close
+    (tie.spec
+    end-at-requires
+    turned-with-requires
+    returns
+    comment-requires
+    turned-with-requires-2
+    returns-2
+    dump-at-requires
+    turned-with-requires-3
+    returns-3)
