@@ -239,7 +239,7 @@ module _ (t : List ℕ) (from : ℕ) where
 module _ (t : List ℕ) (from : ℕ) where
   pub record TimeTo (time i : ℕ) : Type 0 where
     pub inside : Within t from i
-    pub small : time < 10000000000000000000
+    pub small : time < 18446744073709551616
     pub digits : all isDigit (wordFrom t i) ≡ all isDigit (wordFrom t from)
     pub spells : numeral 10 time (map digitOf (wordFrom t i)) ≡ numeral 10 0 (map digitOf (wordFrom t from))
 
@@ -247,7 +247,7 @@ module _ (t : List ℕ) (from : ℕ) where
   time-none = record { inside = within-none t from; small = omega arith; digits = refl; spells = refl }
 
   pub time-more :
-      (time i : ℕ) → TimeTo time i → i < length t → isDigit (getD t i 0) ≡ true → time < 1000000000000000000 →
+      (time i : ℕ) → TimeTo time i → i < length t → isDigit (getD t i 0) ≡ true → time < 1844674407370955161 →
       TimeTo (time * 10 + (getD t i 0 - 48)) (i + 1)
   time-more time i o h k l =
       let range = digit-range (getD t i 0) k in

@@ -178,13 +178,16 @@ pub fn code_at(text: &[u8], from: usize) -> Coded
 
 // ---- times
 
+// A tenth of 2^64 - 1.
+const TENTH: u64 = 1844674407370955161;
+
 pub fn timed_with(whole: bool, end: usize, time: u64) -> Timed
     ensures { λ r. ⌜ r ≡ timedWith whole end time ⌝ }
 {
     Timed { whole, end, time }
 }
 
-// Times of up to 19 digits, so that each fits.
+// A time below TENTH takes any digit more, and fits.
 pub fn time_at(text: &[u8], from: usize) -> Timed
     ensures { λ r. ⌜ TimeThere (now (text .entry)) from r ⌝ }
 {
@@ -195,7 +198,7 @@ pub fn time_at(text: &[u8], from: usize) -> Timed
         if !scanning::is_digit(b) {
             break;
         }
-        if 1000000000000000000 <= time {
+        if TENTH <= time {
             return timed_with(false, i, 0);
         }
         time = time * 10 + (b - 48) as u64;
