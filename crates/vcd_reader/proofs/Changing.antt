@@ -3,7 +3,7 @@
 --   places-some, places-none     a vector's code names a variable that takes the vector, or not
 --   coded-vector                 bits from an offset on and the code that follows them
 --   follows-vector, follows-level, follows-time    a whole change, or a time, that gives no command
---   quiet-vector, quiet-level, quiet-time          the same from a reader with other values, time and level
+--   quiet-start, quiet-vector, quiet-level, quiet-time    the same from a reader with other values, time and level
 --   takes-command                a time that gives a command
 use Prim.Native.Nat.{ℕ, _+_, _-_, _%_, _<_, _≤_, min}
 use mathlib.Core.Path.{_≡_, refl, sym, ap, subst, _∙_}
@@ -13,10 +13,10 @@ use mathlib.Core.Bool.{Bool, true, false, not, _&&_, _||_, and-false}
 use lib.ListN.{length, getD}
 use lib.Dec.{ltb, leb, eqb}
 use native.Mathlib.Omega.{arith}
-use borrow.Author.Tests.{lt-ltb, lt-leb, ltb-true, ltb-false, eq-eqb, ne-eqb, eqb-true, not-false}
+use borrow.Author.Tests.{lt-ltb, lt-leb, ltb-true, eq-eqb, ne-eqb, eqb-true, not-true, not-false}
 use Rattle.lists.proofs.Bools.{and-in, and-l, and-r, or-off, clash, Flag, on, off, flag}
 use Rattle.recording.specs.declared.Place.{Place}
-use Rattle.recording.specs.declared.Place.the-variants.{Body, BodyCode}
+use Rattle.recording.specs.declared.Place.the-variants.{Body, BodyCode, BlockCode}
 use Rattle.recording.specs.declared.Signal.{Signal}
 use Rattle.recording.specs.declared.Signal.the-variants.{Stb, Cmd, Core, Arg, Prio}
 use Rattle.recording.specs.declared.Value.{Value}
@@ -29,10 +29,10 @@ use Rattle.recording.specs.Values.{isBit, isDefinite, bitOf, bitNumber, numeral
 use Rattle.recording.specs.Records.{variable, variableOf, variableWith, withVariableOf, stampWith, withStamp, at, withVector, withUp, withTime, readWith, only}
 use Rattle.recording.specs.Declarations.{hasCode}
 use Rattle.recording.specs.Stamps.{isReadable, strobeOf, endStamp, endOpenStamp}
-use Rattle.recording.specs.Reading.{readWord, readAt, readBody, readChange, isVector, vectorSignal, readVectorCode, isTime, timeOf, openStamp, andThen, readTime}
+use Rattle.recording.specs.Reading.{readWord, readAt, readBody, readBlock, readChange, isVector, vectorSignal, readVectorCode, isTime, timeOf, openStamp, andThen, readTime}
 use Rattle.vcd_words.specs.declared.Number.{Number}
 use Rattle.vcd_words.specs.Partial.{numberWith, moreBits}
-use Rattle.vcd_words.proofs.Bytes.{above-separators, run-more, run-separator, run-end}
+use Rattle.vcd_words.proofs.Bytes.{above-separators, run-more}
 use Rattle.vcd_words.proofs.Sums.{bitsOf, bits-sum}
 use Rattle.vcd_reader.specs.declared.Bits.{Bits}
 use Rattle.vcd_reader.specs.declared.Coded.{Coded}
@@ -40,10 +40,11 @@ use Rattle.vcd_reader.specs.declared.Given.{Given}
 use Rattle.vcd_reader.specs.declared.Placed.{Placed}
 use Rattle.vcd_reader.specs.declared.Timed.{Timed}
 use Rattle.vcd_reader.specs.Advances.{Follows}
-use Rattle.vcd_reader.specs.Runs.{wordFrom, timedWith, Ones, CodeThere, TimeThere, Skips}
-use Rattle.vcd_reader.specs.Changes.{givenWith, knownVector, placedWith, withVariables, changedTo, CodedVector, VectorThere, Places, QuietTime, withLevel, takenAt, Takes}
-use Rattle.vcd_reader.proofs.Follows.{follows-then, follows-passes, follows-word, word-within}
-use Rattle.vcd_reader.proofs.Reaching.{isKnown, known-range, no-time}
+use Rattle.vcd_reader.specs.Runs.{wordFrom, timedWith, BitsThere, CodeThere, TimeThere, Skips}
+use Rattle.vcd_reader.specs.Skipping.{changePlace}
+use Rattle.vcd_reader.specs.Changes.{givenWith, bitsVector, placedWith, withVariables, changedTo, CodedVector, VectorThere, Places, QuietTime, withLevel, takenAt, Takes}
+use Rattle.vcd_reader.proofs.Follows.{follows-then, follows-passes, follows-skips, follows-word, word-within}
+use Rattle.vcd_reader.proofs.Reaching.{word-inside, word-starts, other-byte, bit-range, no-time}
 
 -- ---- the variable of a code
 
@@ -93,14 +94,13 @@ module _ (vs : Variables) (code : ℕ) (v : Vector) (p : Placed) where
       rw e
       (record {
         some = λ f. omega arith;
-        takes = λ f r i w er ev ec.
-            go r i w er ev (named r w er ec) (sym ef ∙ f);
+        takes = λ f next r i w er ev ec. go next r i w er ev (named r w er ec) (sym ef ∙ f);
       })
     where
-      go : (r : Reader) (i : ℕ) (w : List ℕ) → r .variables ≡ vs → r .pending .vector ≡ v → vectorSignal r w ≡ some s →
-          leb (v .length) ((variableOf vs s) .width) ≡ true →
-          readVectorCode Body (vectorSignal r w) r (wordAt i w) ≡ withVariables (withVariableOf vs s x) (at Body r)
-      go r i w er ev es el =
+      go : (next : Place) (r : Reader) (i : ℕ) (w : List ℕ) → r .variables ≡ vs → r .pending .vector ≡ v →
+          vectorSignal r w ≡ some s → leb (v .length) ((variableOf vs s) .width) ≡ true →
+          readVectorCode next (vectorSignal r w) r (wordAt i w) ≡ withVariables (withVariableOf vs s x) (at next r)
+      go next r i w er ev es el =
           let el′ : leb (r .pending .vector .length) ((variableOf (r .variables) s) .width) ≡ true = rw (er, ev) el in
           rw (es, ex, ← er, ← ev, el′)
 
@@ -109,49 +109,34 @@ module _ (vs : Variables) (code : ℕ) (v : Vector) (p : Placed) where
 
 -- ---- a vector with its code
 
--- bits that are all known, and their number
-module _ (u : List ℕ) (n : ℕ) (e : moreBits (numberWith true true false 0) u ≡ numberWith true true false n) where
-  sum : bitsOf (numberWith true true false 0) 0 u ≡ numberWith true true false n
+-- bits, and their number where they are all known
+module _ (u : List ℕ) (known : Bool) (n : ℕ) (e : moreBits (numberWith true true false 0) u ≡ numberWith true known false n) where
+  sum : bitsOf (numberWith true true false 0) 0 u ≡ numberWith true known false n
   sum = sym (bits-sum (numberWith true true false 0) 0 u refl) ∙ e
 
   all-bits : all isBit u ≡ true
   all-bits = go (flag (all isBit u)) sum
     where
-      go : Flag (all isBit u) → bitsOf (numberWith true true false 0) 0 u ≡ numberWith true true false n → all isBit u ≡ true
+      go : Flag (all isBit u) → bitsOf (numberWith true true false 0) 0 u ≡ numberWith true known false n → all isBit u ≡ true
       go (on f) g = f
       go (off f) g = let no : false ≡ true = ap (λ (x : Number). x .whole) (rw f at g) in clash no refl
 
   full :
       numberWith true (all isDefinite (map bitOf u)) false (min 65535 (numeral 2 0 (map bitNumber (map bitOf u)))) ≡
-      numberWith true true false n
+      numberWith true known false n
   full = rw all-bits at sum
 
   number-held : n ≤ 65535
   number-held = omega (arith, ap (λ (x : Number). x .value) full)
 
-  vector-known : knownVector (min 255 (length u)) n ≡ vectorOf u
+  vector-given : bitsVector (min 255 (length u)) known n ≡ vectorOf u
   unfolding vectorOf valueOf
-  vector-known = rw (ap (λ (x : Number). x .known) full, ap (λ (x : Number). x .value) full)
+  vector-given = rw (ap (λ (x : Number). x .known) full, ap (λ (x : Number). x .value) full)
 
--- a word that is a code begins at its offset
-module _ (t : List ℕ) (i : ℕ) (h : 0 < codeOf (wordFrom t i)) where
-  no-word : wordFrom t i ≡ [] → ⊥
-  unfolding codeOf
-  no-word e = let none : codeOf (wordFrom t i) ≡ 0 = ap codeOf e in omega arith
-
-  code-inside : i < length t
-  code-inside = go (flag (ltb i (length t)))
-    where
-      go : Flag (ltb i (length t)) → i < length t
-      go (on f) = ltb-true i (length t) f
-      go (off f) = absurd (no-word (run-end t i (ltb-false i (length t) f)))
-
-  code-starts : separator (getD t i 0) ≡ false
-  code-starts = go (flag (separator (getD t i 0)))
-    where
-      go : Flag (separator (getD t i 0)) → separator (getD t i 0) ≡ false
-      go (on f) = absurd (no-word (run-separator t i code-inside f))
-      go (off f) = f
+-- a word that is a code has a byte
+code-some : (w : List ℕ) → 0 < codeOf w → w ≡ [] → ⊥
+unfolding codeOf
+code-some w h e = let none : codeOf w ≡ 0 = ap codeOf e in omega arith
 
 some-bits : (u : List ℕ) → 0 < length u → all isBit u ≡ true → isVector (98 ∷ u) ≡ true
 some-bits [] h e = absurd (omega arith)
@@ -160,25 +145,27 @@ some-bits (b ∷ u) h e = e
 module _ (t : List ℕ) (from : ℕ) where
   pub coded-vector :
       (b : Bits) (i : ℕ) (c : Coded) (v : Vector) (end : ℕ) (g : Given) →
-      Ones t from b → b .whole ≡ true → from < b .end → b .end - from ≤ 255 → Skips t (b .end) i → CodeThere t i c →
-      v ≡ knownVector (b .end - from) (b .number % 65536) → Skips t (c .end) end → g ≡ givenWith end (c .code) v → VectorThere t from g
+      BitsThere t from b → b .whole ≡ true → from < b .end → b .end - from ≤ 255 → Skips t (b .end) i → CodeThere t i c →
+      v ≡ bitsVector (b .end - from) (b .known) (b .number % 65536) → Skips t (c .end) end → g ≡ givenWith end (c .code) v →
+      VectorThere t from g
   coded-vector b i c v end g o whole more short s k ev s′ eg = rw eg (λ h. go h (o .end whole) (o .number whole) (k .end h) (k .code h))
     where
       go : 0 < c .code → b .end ≡ from + length (wordFrom t from) →
-          moreBits (numberWith true true false 0) (wordFrom t from) ≡ numberWith true true false (b .number) →
+          moreBits (numberWith true true false 0) (wordFrom t from) ≡ numberWith true (b .known) false (b .number) →
           c .end ≡ i + length (wordFrom t i) → c .code ≡ codeOf (wordFrom t i) → CodedVector t from (givenWith end (c .code) v)
       go h ends bits cends code =
           let u = wordFrom t from in
           let there : 0 < codeOf (wordFrom t i) = omega arith in
           let count : b .end - from ≡ min 255 (length u) = omega arith in
-          let held = number-held u (b .number) bits in
+          let held = number-held u (b .known) (b .number) bits in
           let same : b .number % 65536 ≡ b .number = omega arith in
-          let inside = code-inside t i there in
-          let starts = code-starts t i there in
+          let some = code-some (wordFrom t i) there in
+          let inside = word-inside t i some in
+          let starts = word-starts t i some in
           record {
             at = i;
-            bits = some-bits u (omega arith) (all-bits u (b .number) bits);
-            vector = rw (ev, count, same) (vector-known u (b .number) bits);
+            bits = some-bits u (omega arith) (all-bits u (b .known) (b .number) bits);
+            vector = rw (ev, count, same) (vector-given u (b .known) (b .number) bits);
             passes = rw (← ends) (s .passes);
             later = omega (arith, s .moves);
             inside = inside;
@@ -208,37 +195,47 @@ binary-range b e = go (flag (eqb b 98))
     go (on f) = omega (arith, eqb-true b 98 f)
     go (off f) = omega (arith, eqb-true b 66 (or-off (eqb b 98) (eqb b 66) e f))
 
+-- where the code of a vector is due, in a block or not
+abbrev codePlace : Bool → Place
+codePlace true = BlockCode
+codePlace false = BodyCode
+
 module _ (r : Reader) (i : ℕ) (u : List ℕ) (good : r .fault .number ≡ 0) where
   read-code :
-      readWord (at BodyCode r) (wordAt i u) ≡
-      only (readVectorCode Body (vectorSignal (at BodyCode r) u) (at BodyCode r) (wordAt i u))
+      (block : Bool) →
+      readWord (at (codePlace block) r) (wordAt i u) ≡
+      only (readVectorCode (changePlace block) (vectorSignal (at (codePlace block) r) u) (at (codePlace block) r) (wordAt i u))
   unfolding readWord readAt
-  read-code = rw (eq-eqb _ _ good)
+  read-code true = rw (eq-eqb _ _ good)
+  read-code false = rw (eq-eqb _ _ good)
 
-  module _ (pl : r .place ≡ Body) where
+  -- a word that begins with neither # nor $
+  read-change :
+      (block : Bool) → r .place ≡ changePlace block → (b : ℕ) → eqb b 35 ≡ false → eqb b 36 ≡ false →
+      readWord r (wordAt i (b ∷ u)) ≡ only (readChange (changePlace block) (codePlace block) r (wordAt i (b ∷ u)))
+  unfolding readWord readAt readBody readBlock
+  read-change true pl b no-hash no-dollar = rw (eq-eqb _ _ good, pl, no-dollar)
+  read-change false pl b no-hash no-dollar = rw (eq-eqb _ _ good, pl, no-hash, no-dollar)
+
+  module _ (block : Bool) (pl : r .place ≡ changePlace block) where
     read-vector :
         (b : ℕ) → isBinary b ≡ true → isVector (98 ∷ u) ≡ true →
-        readWord r (wordAt i (b ∷ u)) ≡ only (at BodyCode (withVector (vectorOf u) r))
-    unfolding readWord readAt readBody readChange
-    read-vector b k e = go (flag (eqb b 98))
-      where
-        go : Flag (eqb b 98) → readWord r (wordAt i (b ∷ u)) ≡ only (at BodyCode (withVector (vectorOf u) r))
-        go (on f) = rw (eqb-true b 98 f, eq-eqb _ _ good, pl, e)
-        go (off f) = rw (eqb-true b 66 (or-off (eqb b 98) (eqb b 66) k f), eq-eqb _ _ good, pl, e)
+        readWord r (wordAt i (b ∷ u)) ≡ only (at (codePlace block) (withVector (vectorOf u) r))
+    unfolding readChange
+    read-vector b k e =
+        read-change block pl b (other-byte isBinary b 35 k refl) (other-byte isBinary b 36 k refl) ∙ rw (k, e)
 
     read-level :
-        (b : ℕ) → isKnown b ≡ true → hasCode r u Stb ≡ true →
-        readWord r (wordAt i (b ∷ u)) ≡ only (withVariables (withLevel (r .variables) b) (at Body r))
-    unfolding readWord readAt readBody readChange valueOf
-    read-level b e k = go (flag (eqb b 48))
-      where
-        go : Flag (eqb b 48) → readWord r (wordAt i (b ∷ u)) ≡ only (withVariables (withLevel (r .variables) b) (at Body r))
-        go (on f) = rw (eqb-true b 48 f, eq-eqb _ _ good, pl, k)
-        go (off f) = rw (eqb-true b 49 (or-off (eqb b 48) (eqb b 49) e f), eq-eqb _ _ good, pl, k)
+        (b : ℕ) → isBit b ≡ true → hasCode r u Stb ≡ true →
+        readWord r (wordAt i (b ∷ u)) ≡ only (withVariables (withLevel (r .variables) b) (at (changePlace block) r))
+    unfolding readChange
+    read-level b e k =
+        read-change block pl b (other-byte isBit b 35 e refl) (other-byte isBit b 36 e refl)
+        ∙ rw (other-byte isBit b 98 e refl, other-byte isBit b 66 e refl, e, k)
 
-    read-hash : readWord r (wordAt i (35 ∷ u)) ≡ readTime r (wordAt i (35 ∷ u))
-    unfolding readWord readAt readBody
-    read-hash = rw (eq-eqb _ _ good, pl)
+  read-hash : r .place ≡ Body → readWord r (wordAt i (35 ∷ u)) ≡ readTime r (wordAt i (35 ∷ u))
+  unfolding readWord readAt readBody
+  read-hash pl = rw (eq-eqb _ _ good, pl)
 
 -- a time at the end of an open stamp
 module _ (r : Reader) (i : ℕ) (w : List ℕ) (time : ℕ) (good : r .fault .number ≡ 0) (e : isTime w ≡ true) (et : time ≡ timeOf w)
@@ -303,53 +300,56 @@ module _ (t : List ℕ) (i : ℕ) (h : i < length t) where
         (end end′ : ℕ) (r r′ : Reader) → end ≡ i + 1 + length (wordFrom t (i + 1)) → Skips t end end′ →
         readWord r (wordAt i (b ∷ wordFrom t (i + 1))) ≡ only r′ → Follows t i r end′ r′
     follows-skip end end′ r r′ e s g =
-        follows-then t (follows-first end r r′ e g) (follows-passes t end end′ r′ (s .moves) (s .within) (s .passes))
+        follows-then t (follows-first end r r′ e g) (follows-skips t end end′ r′ s)
 
-  module _ (r : Reader) (pl : r .place ≡ Body) (good : r .fault .number ≡ 0) where
+  module _ (r : Reader) (block : Bool) (pl : r .place ≡ changePlace block) (good : r .fault .number ≡ 0) where
     pub follows-vector :
         (b : ℕ) (g : Given) (p : Placed) → getD t i 0 ≡ b → isBinary b ≡ true → CodedVector t (i + 1) g →
         Places (r .variables) (g .code) (g .vector) p → p .found ≡ true →
-        Follows t i r (g .end) (withVariables (p .variables) (at Body (withVector (g .vector) r)))
+        Follows t i r (g .end) (withVariables (p .variables) (at (changePlace block) (withVector (g .vector) r)))
     follows-vector b g p eb k v q f =
         let u = wordFrom t (i + 1) in
         let mid = i + 1 + length u in
         let code = wordFrom t (v .at) in
         let over = v .at + length code in
-        let r₁ = at BodyCode (withVector (g .vector) r) in
-        let r₂ = withVariables (p .variables) (at Body (withVector (g .vector) r)) in
+        let r₁ = at (codePlace block) (withVector (g .vector) r) in
+        let r₂ = withVariables (p .variables) (at (changePlace block) (withVector (g .vector) r)) in
         follows-then t
         (follows-first b eb (binary-range b k) mid r r₁ refl
-        (read-vector r i u good pl b k (v .bits) ∙ ap (λ (x : Vector). only (at BodyCode (withVector x r))) (sym (v .vector))))
+        (read-vector r i u good block pl b k (v .bits)
+        ∙ ap (λ (x : Vector). only (at (codePlace block) (withVector x r))) (sym (v .vector))))
         (follows-then t (follows-passes t mid (v .at) r₁ (v .later) (λ x. omega (arith, v .inside)) (v .passes))
         (follows-then t
         (follows-word t (v .at) (v .inside) (v .starts) over refl r₁ r₂
-        (read-code (withVector (g .vector) r) (v .at) code good ∙ ap only (q .takes f r₁ (v .at) code refl refl (v .code))))
+        (read-code (withVector (g .vector) r) (v .at) code good block
+        ∙ ap only (q .takes f (changePlace block) r₁ (v .at) code refl refl (v .code))))
         (follows-passes t over (g .end) r₂ (v .moves) (λ x. v .within) (v .rest))))
 
     pub follows-level :
-        (b : ℕ) (c : Coded) (end : ℕ) → getD t i 0 ≡ b → isKnown b ≡ true → CodeThere t (i + 1) c →
+        (b : ℕ) (c : Coded) (end : ℕ) → getD t i 0 ≡ b → isBit b ≡ true → CodeThere t (i + 1) c →
         (ltb 0 (c .code) && eqb (r .variables .stb .code) (c .code)) ≡ true → Skips t (c .end) end →
-        Follows t i r end (withVariables (withLevel (r .variables) b) (at Body r))
+        Follows t i r end (withVariables (withLevel (r .variables) b) (at (changePlace block) r))
     follows-level b c end eb k there e s =
         let some : 0 < c .code = ltb-true 0 (c .code) (and-l (ltb 0 (c .code)) (eqb (r .variables .stb .code) (c .code)) e) in
         let same : r .variables .stb .code ≡ c .code
         = eqb-true (r .variables .stb .code) (c .code) (and-r (ltb 0 (c .code)) (eqb (r .variables .stb .code) (c .code)) e) in
         let code : c .code ≡ codeOf (wordFrom t (i + 1)) = there .code some in
-        follows-skip b eb (known-range b k) (c .end) end r _ (there .end some) s
-        (read-level r i (wordFrom t (i + 1)) good pl b k (has-code r (wordFrom t (i + 1)) Stb (omega arith) (same ∙ code)))
+        follows-skip b eb (bit-range b k) (c .end) end r _ (there .end some) s
+        (read-level r i (wordFrom t (i + 1)) good block pl b k (has-code r (wordFrom t (i + 1)) Stb (omega arith) (same ∙ code)))
 
+  module _ (r : Reader) (pl : r .place ≡ Body) (good : r .fault .number ≡ 0) where
     module _ (a : Timed) (eb : getD t i 0 ≡ 35) (there : TimeThere t (i + 1) a) (whole : a .whole ≡ true) where
       is-time : isTime (35 ∷ wordFrom t (i + 1)) ≡ true
       is-time = and-in (there .digits whole) (there .fits whole)
 
       pub follows-time :
-          (end : ℕ) → QuietTime t (i + 1) (r .stamp .opened) (r .variables .stb .value) (r .stamp .up) (r .stamp .time) a →
-          Skips t (a .end) end →
+          (end : ℕ) (opened : Bool) → r .stamp .opened ≡ true →
+          QuietTime t (i + 1) opened (r .variables .stb .value) (r .stamp .up) (r .stamp .time) a → Skips t (a .end) end →
           Follows t i r end (withTime (a .time) (withUp (eqb (r .variables .stb .value .number) 1) r))
-      follows-time end q s =
+      follows-time end opened o q s =
           follows-skip 35 eb (omega arith) (a .end) end r _ (there .end whole) s
           (read-hash r i (wordFrom t (i + 1)) good pl
-          ∙ time-quiet r i (35 ∷ wordFrom t (i + 1)) (a .time) good is-time (there .time whole) (q .isOpen whole) (q .known whole)
+          ∙ time-quiet r i (35 ∷ wordFrom t (i + 1)) (a .time) good is-time (there .time whole) o (q .known whole)
           (q .later whole) (q .quiet whole))
 
       pub takes-command : Takes r (a .time) → readWith (takenAt r (a .time)) (strobeOf r) ≡ readWord r (wordAt i (wordFrom t i))
@@ -359,34 +359,35 @@ module _ (t : List ℕ) (i : ℕ) (h : i < length t) where
           ∙ read-hash r i (wordFrom t (i + 1)) good pl
           ∙ k .gives good i (35 ∷ wordFrom t (i + 1)) is-time (there .time whole))
 
--- the same from a reader with other values, time and level
-module _ (t : List ℕ) (i : ℕ) (h : i < length t) (r : Reader) (pl : r .place ≡ Body) (good : r .fault .number ≡ 0)
-    (vs : Variables) (v : Vector) (time : ℕ) (up : Bool) where
-  in-body : (vs′ : Variables) (v′ : Vector) → at Body (changedTo r vs′ v′ time up) ≡ changedTo r vs′ v′ time up
-  in-body vs′ v′ = ap (λ (x : Place). at x (changedTo r vs′ v′ time up)) (sym pl)
+-- a reader where changes may stand is one with its own values, time and level
+pub quiet-start :
+    (t : List ℕ) (from i : ℕ) (r : Reader) (block : Bool) → r .place ≡ changePlace block → Skips t from i →
+    Follows t from r i (changedTo block r (r .variables) (r .pending .vector) (r .stamp .time) (r .stamp .up))
+quiet-start t from i r block pl s = subst (λ (x : Place). Follows t from r i (at x r)) pl (follows-skips t from i r s)
 
+-- the same from a reader with other values, time and level
+module _ (t : List ℕ) (i : ℕ) (h : i < length t) (r : Reader) (good : r .fault .number ≡ 0) (block : Bool)
+    (vs : Variables) (v : Vector) (time : ℕ) (up : Bool) where
   pub quiet-vector :
       (b : ℕ) (g : Given) (p : Placed) → getD t i 0 ≡ b → isBinary b ≡ true → CodedVector t (i + 1) g →
       Places vs (g .code) (g .vector) p → p .found ≡ true →
-      Follows t i (changedTo r vs v time up) (g .end) (changedTo r (p .variables) (g .vector) time up)
-  quiet-vector b g p eb k c q f =
-      subst (λ (x : Reader). Follows t i (changedTo r vs v time up) (g .end) x) (in-body (p .variables) (g .vector))
-      (follows-vector t i h (changedTo r vs v time up) pl good b g p eb k c q f)
+      Follows t i (changedTo block r vs v time up) (g .end) (changedTo block r (p .variables) (g .vector) time up)
+  quiet-vector b g p eb k c q f = follows-vector t i h (changedTo block r vs v time up) block refl good b g p eb k c q f
 
   pub quiet-level :
-      (b : ℕ) (c : Coded) (end : ℕ) → getD t i 0 ≡ b → isKnown b ≡ true → CodeThere t (i + 1) c →
+      (b : ℕ) (c : Coded) (end : ℕ) → getD t i 0 ≡ b → isBit b ≡ true → CodeThere t (i + 1) c →
       (ltb 0 (c .code) && eqb (vs .stb .code) (c .code)) ≡ true → Skips t (c .end) end →
-      Follows t i (changedTo r vs v time up) end (changedTo r (withLevel vs b) v time up)
-  quiet-level b c end eb k there e s =
-      subst (λ (x : Reader). Follows t i (changedTo r vs v time up) end x) (in-body (withLevel vs b) v)
-      (follows-level t i h (changedTo r vs v time up) pl good b c end eb k there e s)
+      Follows t i (changedTo block r vs v time up) end (changedTo block r (withLevel vs b) v time up)
+  quiet-level b c end eb k there e s = follows-level t i h (changedTo block r vs v time up) block refl good b c end eb k there e s
 
   pub quiet-time :
-      (a : Timed) (end : ℕ) → getD t i 0 ≡ 35 → QuietTime t (i + 1) (r .stamp .opened) (vs .stb .value) up time a → a .whole ≡ true →
-      Skips t (a .end) end →
-      Follows t i (changedTo r vs v time up) end (changedTo r vs v (a .time) (eqb (vs .stb .value .number) 1))
-  quiet-time a end eb q whole s =
-      let r′ = changedTo r vs v time up in
-      subst (λ (x : Bool). Follows t i r′ end (withStamp (stampWith x (a .time) (eqb (vs .stb .value .number) 1)) r′))
-      (sym (q .isOpen whole))
-      (follows-time t i h (changedTo r vs v time up) pl good a eb (q .there) whole end q s)
+      (a : Timed) (end : ℕ) (ends : Bool) → getD t i 0 ≡ 35 → ends ≡ (r .stamp .opened && not block) →
+      QuietTime t (i + 1) ends (vs .stb .value) up time a → a .whole ≡ true → Skips t (a .end) end →
+      Follows t i (changedTo block r vs v time up) end (changedTo block r vs v (a .time) (eqb (vs .stb .value .number) 1))
+  quiet-time a end ends eb e q whole s =
+      let both = sym e ∙ q .isOpen whole in
+      let opened = and-l (r .stamp .opened) (not block) both in
+      let outside = not-true block (and-r (r .stamp .opened) (not block) both) in
+      let r′ = changedTo block r vs v time up in
+      subst (λ (x : Bool). Follows t i r′ end (withStamp (stampWith x (a .time) (eqb (vs .stb .value .number) 1)) r′)) (sym opened)
+      (follows-time t i h r′ (ap changePlace outside) good a eb (q .there) whole end ends opened q s)

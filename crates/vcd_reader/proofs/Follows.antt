@@ -1,5 +1,5 @@
 -- A text read on. Assumes nothing.
---   follows-none, follows-then, follows-passes    nothing is read; one part after another; separators
+--   follows-none, follows-then, follows-passes, follows-skips    nothing is read; one part after another; separators
 --   follows-separator, follows-word               a separator; a word that gives no command
 --   follows-bad                                   a reader with a fault stays as it is
 --   advances-word, advances-after, advances-quiet a word; after words that give no command; these words alone
@@ -22,6 +22,7 @@ use Rattle.vcd_words.specs.Partial.{run, empty, extendedBy, Keeps}
 use Rattle.vcd_words.proofs.Numbers.{run-inside}
 use Rattle.vcd_reader.specs.declared.Advanced.{Advanced}
 use Rattle.vcd_reader.specs.Advances.{wordsFrom, advancedWith, Follows, Advances}
+use Rattle.vcd_reader.specs.Runs.{Skips}
 use Rattle.vcd_reader.proofs.Cuts.{cut-separator, run-some, cut-word, run-small}
 
 -- ---- lists of words
@@ -72,6 +73,9 @@ module _ (t : List ℕ) where
   pub follows-passes : (i j : ℕ) (r : Reader) → i ≤ j → (i ≤ length t → j ≤ length t) → wordsFrom t i ≡ wordsFrom t j → Follows t i r j r
   follows-passes i j r h k e =
       record { moves = h; within = k; reads = λ cs. ap (readWords (progress r cs)) e; times = ap (timesFrom r) e }
+
+  pub follows-skips : (i j : ℕ) (r : Reader) → Skips t i j → Follows t i r j r
+  follows-skips i j r s = follows-passes i j r (s .moves) (s .within) (s .passes)
 
   module _ (i : ℕ) (h : i < length t) (e : separator (getD t i 0) ≡ false) (end : ℕ) (f : end ≡ i + length (run (drop i t))) where
     pub word-moves : i < end

@@ -2,4 +2,6 @@
 pub mod Cuts
 pub mod Follows
 pub mod Reaching
+pub mod Spelling
+pub mod Passing
 pub mod Changing

@@ -1,61 +1,84 @@
 -- Words that begin at an offset, a byte at a time. Assumes nothing.
---   OnesTo, ones-none, ones-more, ones-there    bits 0 and 1 up to i, and their number
+--   Within, within-none, within-more, within-all    the bytes of a word up to i
+--   is-over, over                               whether a word has a byte
+--   word-inside, word-starts                    a word that has one begins at its offset
+--   BitsTo, bits-none, bits-more, ones-more, bits-there    bits up to i, and their number
 --   CodeTo, code-none, code-more, code-there    the bytes of a code up to i, and what they spell
 --   TimeTo, time-none, time-more, time-there    decimal digits up to i, and their number
 use Prim.Native.Nat.{ℕ, _+_, _*_, _-_, _<_, _≤_, min}
 use mathlib.Core.Path.{_≡_, refl, sym, ap, _∙_}
 use mathlib.Core.List.{List, [], _∷_, map}
-use mathlib.Core.Bool.{Bool, true, false, not, _||_, cond}
+use mathlib.Core.Bool.{Bool, true, false, not, _&&_, _||_, cond}
 use lib.ListN.{length, getD}
-use lib.Dec.{leb, eqb}
+use lib.Dec.{ltb, leb, eqb}
 use native.Mathlib.Omega.{arith}
-use borrow.Author.Tests.{leb-true, le-leb, eqb-true}
+use borrow.Author.Tests.{ltb-true, ltb-false, leb-true, le-leb, ne-eqb}
 use Rattle.lists.specs.Numbers.{between}
-use Rattle.lists.proofs.Bools.{and-in, and-l, and-r, or-off, clash, Flag, on, off, flag}
-use Rattle.recording.specs.Words.{all, isEmpty}
-use Rattle.recording.specs.Values.{numeral, isBit, bitOf, bitNumber, isDigit, digitOf, isDecimal, decimal, codeOf}
+use Rattle.lists.proofs.Bools.{and-in, and-l, and-r, or-off, clash, refuted, Flag, on, off, flag}
+use Rattle.recording.specs.Words.{separator, all, isEmpty}
+use Rattle.recording.specs.Values.{numeral, isBit, bitOf, isDefinite, bitNumber, isDigit, digitOf, isDecimal, decimal, codeOf}
 use Rattle.recording.specs.Reading.{maxTime}
 use Rattle.vcd_words.specs.Partial.{numberWith, withBit, moreBits}
-use Rattle.vcd_words.proofs.Bytes.{above-separators, definite, run-more}
+use Rattle.vcd_words.proofs.Bytes.{above-separators, definite, run-more, run-separator, run-end}
 use Rattle.vcd_words.proofs.Numbers.{digit-range}
 use Rattle.vcd_reader.specs.declared.Bits.{Bits}
 use Rattle.vcd_reader.specs.declared.Coded.{Coded}
 use Rattle.vcd_reader.specs.declared.Timed.{Timed}
-use Rattle.vcd_reader.specs.Runs.{wordFrom, bitsWith, codedWith, timedWith, Ones, CodeThere, TimeThere}
+use Rattle.vcd_reader.specs.Runs.{wordFrom, bitsWith, codedWith, timedWith, BitsThere, CodeThere, TimeThere}
 
 -- the length of the word is what is passed and what is left
 pub record Within (t : List ℕ) (from i : ℕ) : Type 0 where
   pub start : from ≤ i
   pub end : i + length (wordFrom t i) ≡ from + length (wordFrom t from)
 
-within-none : (t : List ℕ) (from : ℕ) → Within t from from
+pub within-none : (t : List ℕ) (from : ℕ) → Within t from from
 within-none t from = record { start = omega arith; end = refl }
 
--- a byte above the space is one of a word
-module _ (t : List ℕ) (i : ℕ) (h : i < length t) (k : 32 < getD t i 0) where
-  word-more : wordFrom t i ≡ getD t i 0 ∷ wordFrom t (i + 1)
-  word-more = run-more t i h (above-separators (getD t i 0) k)
+-- a byte that is no separator is one of a word
+pub within-more :
+    (t : List ℕ) (from i : ℕ) → Within t from i → i < length t → separator (getD t i 0) ≡ false → Within t from (i + 1)
+within-more t from i w h k =
+    record { start = omega (arith, w .start); end = omega (arith, ap length (run-more t i h k), w .end) }
 
-  within-more : (from : ℕ) → Within t from i → Within t from (i + 1)
-  within-more from w = record { start = omega (arith, w .start); end = omega (arith, ap length word-more, w .end) }
-
-within-all : (t : List ℕ) (from i : ℕ) → Within t from i → wordFrom t i ≡ [] → i ≡ from + length (wordFrom t from)
+pub within-all : (t : List ℕ) (from i : ℕ) → Within t from i → wordFrom t i ≡ [] → i ≡ from + length (wordFrom t from)
 within-all t from i w e = omega (arith, ap length e, w .end)
+
+-- a byte above the space
+module _ (t : List ℕ) (i : ℕ) (h : i < length t) (k : 32 < getD t i 0) where
+  above-starts : separator (getD t i 0) ≡ false
+  above-starts = above-separators (getD t i 0) k
+
+  word-more : wordFrom t i ≡ getD t i 0 ∷ wordFrom t (i + 1)
+  word-more = run-more t i h above-starts
+
+-- whether a word has a byte
+pub is-over : (t : List ℕ) (i : ℕ) → i < length t → separator (getD t i 0) ≡ isEmpty (wordFrom t i)
+is-over t i h = go (flag (separator (getD t i 0)))
+  where
+    go : Flag (separator (getD t i 0)) → separator (getD t i 0) ≡ isEmpty (wordFrom t i)
+    go (on e) = rw (run-separator t i h e, e)
+    go (off e) = rw (run-more t i h e, e)
+
+pub over : (w : List ℕ) {b : Bool} → b ≡ isEmpty w → b ≡ true → w ≡ []
+over [] e f = refl
+over (x ∷ w) e f = clash f e
+
+-- a word that has one begins at its offset
+module _ (t : List ℕ) (i : ℕ) (some : wordFrom t i ≡ [] → ⊥) where
+  pub word-inside : i < length t
+  word-inside = go (flag (ltb i (length t)))
+    where
+      go : Flag (ltb i (length t)) → i < length t
+      go (on f) = ltb-true i (length t) f
+      go (off f) = absurd (some (run-end t i (ltb-false i (length t) f)))
+
+  pub word-starts : separator (getD t i 0) ≡ false
+  word-starts = refuted (separator (getD t i 0)) (λ f. some (run-separator t i word-inside f))
 
 -- ---- bits
 
 abbrev pub isKnown : ℕ → Bool
 isKnown b = eqb b 48 || eqb b 49
-
-pub known-least : (b : ℕ) → isKnown b ≡ true → 48 ≤ b
-known-least b e = go (flag (eqb b 48))
-  where
-    go : Flag (eqb b 48) → 48 ≤ b
-    go (on f) = omega (arith, eqb-true b 48 f)
-    go (off f) = omega (arith, eqb-true b 49 (or-off (eqb b 48) (eqb b 49) e f))
-
-pub known-range : (b : ℕ) → isKnown b ≡ true → 32 < b
-known-range b e = omega (arith, known-least b e)
 
 pub known-bit : (b : ℕ) → isKnown b ≡ true → isBit b ≡ true
 known-bit b e = go (flag (eqb b 48))
@@ -64,41 +87,68 @@ known-bit b e = go (flag (eqb b 48))
     go (on f) = rw f
     go (off f) = rw (f, or-off (eqb b 48) (eqb b 49) e f)
 
+-- a byte that passes a test is none that doesn't
+pub other-byte : (test : ℕ → Bool) (b c : ℕ) → test b ≡ true → test c ≡ false → eqb b c ≡ false
+other-byte test b c e f = ne-eqb b c (λ g. clash e (ap test g ∙ f))
+
+pub bit-range : (b : ℕ) → isBit b ≡ true → 32 < b
+bit-range b e = go (flag (ltb 32 b))
+  where
+    go : Flag (ltb 32 b) → 32 < b
+    go (on f) = ltb-true 32 b f
+    go (off f) =
+        let low : b ≤ 32 = ltb-false 32 b f in
+        let none : isBit b ≡ false
+        = rw (
+          ne-eqb b 48 (λ g. omega arith),
+          ne-eqb b 49 (λ g. omega arith),
+          ne-eqb b 120 (λ g. omega arith),
+          ne-eqb b 88 (λ g. omega arith),
+          ne-eqb b 122 (λ g. omega arith),
+          ne-eqb b 90 (λ g. omega arith),
+        ) in
+        clash e none
+
 module _ (t : List ℕ) (from : ℕ) where
-  pub record OnesTo (number i : ℕ) : Type 0 where
+  pub record BitsTo (known : Bool) (number i : ℕ) : Type 0 where
     pub inside : Within t from i
-    pub bits : moreBits (numberWith true true false number) (wordFrom t i) ≡ moreBits (numberWith true true false 0) (wordFrom t from)
+    pub bits : moreBits (numberWith true known false number) (wordFrom t i) ≡ moreBits (numberWith true true false 0) (wordFrom t from)
 
-  pub ones-none : OnesTo 0 from
-  ones-none = record { inside = within-none t from; bits = refl }
+  pub bits-none : BitsTo true 0 from
+  bits-none = record { inside = within-none t from; bits = refl }
 
-  pub ones-more :
-      (number i number′ : ℕ) → OnesTo number i → i < length t → isKnown (getD t i 0) ≡ true →
-      number′ ≡ min 65535 (2 * number + bitNumber (bitOf (getD t i 0))) → OnesTo number′ (i + 1)
+  pub bits-more :
+      (known : Bool) (number i : ℕ) (known′ : Bool) (number′ : ℕ) → BitsTo known number i → i < length t →
+      isBit (getD t i 0) ≡ true → known′ ≡ (known && isDefinite (bitOf (getD t i 0))) →
+      number′ ≡ min 65535 (2 * number + bitNumber (bitOf (getD t i 0))) → BitsTo known′ number′ (i + 1)
   unfolding withBit
-  ones-more number i number′ o h k e =
-      let above = known-range (getD t i 0) k in
+  bits-more known number i known′ number′ o h k ek e =
+      let above = bit-range (getD t i 0) k in
       record {
-        inside = within-more t i h above from (o .inside);
+        inside = within-more t from i (o .inside) h (above-starts t i h above);
         bits =
-            sym
-            (ap (moreBits (numberWith true true false number)) (word-more t i h above)
-            ∙ rw (known-bit (getD t i 0) k, definite (getD t i 0) ∙ k, e))
-            ∙ o .bits;
+            sym (ap (moreBits (numberWith true known false number)) (word-more t i h above) ∙ rw (k, ek, e)) ∙ o .bits;
       }
 
-  pub ones-all :
-      (number i : ℕ) → OnesTo number i → wordFrom t i ≡ [] →
-      (i ≡ from + length (wordFrom t from))
-      × (moreBits (numberWith true true false 0) (wordFrom t from) ≡ numberWith true true false number)
-  ones-all number i o e =
-      (within-all t from i (o .inside) e, sym (o .bits) ∙ ap (moreBits (numberWith true true false number)) e)
+  -- 0 and 1 leave the number known
+  pub ones-more :
+      (number i number′ : ℕ) → BitsTo true number i → i < length t → isKnown (getD t i 0) ≡ true →
+      number′ ≡ min 65535 (2 * number + bitNumber (bitOf (getD t i 0))) → BitsTo true number′ (i + 1)
+  ones-more number i number′ o h k e =
+      bits-more true number i true number′ o h (known-bit (getD t i 0) k) (sym (definite (getD t i 0) ∙ k)) e
 
-  pub ones-there :
-      (b : Bits) (whole : Bool) (number i : ℕ) → b ≡ bitsWith whole i number → OnesTo number i → (whole ≡ true → wordFrom t i ≡ []) →
-      Ones t from b
-  ones-there b whole number i e o h =
-      rw e (record { end = λ f. ones-all number i o (h f) .0; number = λ f. ones-all number i o (h f) .1 })
+  pub bits-all :
+      (known : Bool) (number i : ℕ) → BitsTo known number i → wordFrom t i ≡ [] →
+      (i ≡ from + length (wordFrom t from))
+      × (moreBits (numberWith true true false 0) (wordFrom t from) ≡ numberWith true known false number)
+  bits-all known number i o e =
+      (within-all t from i (o .inside) e, sym (o .bits) ∙ ap (moreBits (numberWith true known false number)) e)
+
+  pub bits-there :
+      (b : Bits) (whole known : Bool) (number i : ℕ) → b ≡ bitsWith whole known i number → BitsTo known number i →
+      (whole ≡ true → wordFrom t i ≡ []) → BitsThere t from b
+  bits-there b whole known number i e o h =
+      rw e (record { end = λ f. bits-all known number i o (h f) .0; number = λ f. bits-all known number i o (h f) .1 })
 
 -- ---- codes
 
@@ -151,7 +201,7 @@ module _ (t : List ℕ) (from : ℕ) where
       let next : i + 1 - from ≡ i - from + 1 = omega (arith, o .inside .start) in
       let value : code * 256 + getD t i 0 ≡ 256 * code + getD t i 0 = omega arith in
       record {
-        inside = within-more t i h above from (o .inside);
+        inside = within-more t from i (o .inside) h (above-starts t i h above);
         size = rw next (sized-more code (i - from) (getD t i 0) (o .size) l (range .0) (range .1));
         bytes = sym (ap (all (between 33 126)) more ∙ rw k) ∙ o .bytes;
         spells = ap (λ (v : ℕ). numeral 256 v (wordFrom t (i + 1))) value ∙ sym (ap (numeral 256 code) more) ∙ o .spells;
@@ -189,7 +239,7 @@ module _ (t : List ℕ) (from : ℕ) where
 module _ (t : List ℕ) (from : ℕ) where
   pub record TimeTo (time i : ℕ) : Type 0 where
     pub inside : Within t from i
-    pub small : time < 10000000000000000000
+    pub small : time < 18446744073709551616
     pub digits : all isDigit (wordFrom t i) ≡ all isDigit (wordFrom t from)
     pub spells : numeral 10 time (map digitOf (wordFrom t i)) ≡ numeral 10 0 (map digitOf (wordFrom t from))
 
@@ -197,7 +247,7 @@ module _ (t : List ℕ) (from : ℕ) where
   time-none = record { inside = within-none t from; small = omega arith; digits = refl; spells = refl }
 
   pub time-more :
-      (time i : ℕ) → TimeTo time i → i < length t → isDigit (getD t i 0) ≡ true → time < 1000000000000000000 →
+      (time i : ℕ) → TimeTo time i → i < length t → isDigit (getD t i 0) ≡ true → time < 1844674407370955161 →
       TimeTo (time * 10 + (getD t i 0 - 48)) (i + 1)
   time-more time i o h k l =
       let range = digit-range (getD t i 0) k in
@@ -205,7 +255,7 @@ module _ (t : List ℕ) (from : ℕ) where
       let more = word-more t i h above in
       let value : time * 10 + (getD t i 0 - 48) ≡ 10 * time + digitOf (getD t i 0) = omega arith in
       record {
-        inside = within-more t i h above from (o .inside);
+        inside = within-more t from i (o .inside) h (above-starts t i h above);
         small = omega (arith, range .0, range .1);
         digits = sym (ap (all isDigit) more ∙ rw k) ∙ o .digits;
         spells =

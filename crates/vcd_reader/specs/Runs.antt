@@ -1,12 +1,13 @@
 -- What a word is that begins at an offset. A helper of contracts; nothing here needs to be believed. Assumes nothing.
 --   wordFrom t i      the bytes of the word from an offset on
---   Skips t i j       from i up to j there are only separators
+--   Skips t i j       from i up to j there are only separators, and at j there is none
 use Prim.Native.Nat.{ℕ, _+_, _<_, _≤_}
 use mathlib.Core.Path.{_≡_}
 use mathlib.Core.List.{List}
 use mathlib.Core.Bool.{Bool, true, false}
-use lib.ListN.{length, drop}
+use lib.ListN.{length, getD, drop}
 use lib.Dec.{leb}
+use Rattle.recording.specs.Words.{separator}
 use Rattle.recording.specs.Values.{codeOf, isDecimal, decimal}
 use Rattle.recording.specs.Reading.{maxTime}
 use Rattle.vcd_words.specs.Partial.{run, numberWith, moreBits}
@@ -22,16 +23,18 @@ pub record Skips (t : List ℕ) (from end : ℕ) : Type 0 where
   pub moves : from ≤ end
   pub within : from ≤ length t → end ≤ length t
   pub passes : wordsFrom t from ≡ wordsFrom t end
+  pub stops : end < length t → separator (getD t end 0) ≡ false
 
 -- ---- bits
 
-abbrev pub bitsWith : Bool → ℕ → ℕ → Bits
-bitsWith whole end number = record { whole = whole; end = end; number = number }
+abbrev pub bitsWith : Bool → Bool → ℕ → ℕ → Bits
+bitsWith whole known end number = record { whole = whole; known = known; end = end; number = number }
 
--- Every byte of the word is 0 or 1, and this is their number.
-pub record Ones (t : List ℕ) (from : ℕ) (b : Bits) : Type 0 where
+-- Every byte of the word is a bit, and this is their number, where they are all known.
+pub record BitsThere (t : List ℕ) (from : ℕ) (b : Bits) : Type 0 where
   pub end : b .whole ≡ true → b .end ≡ from + length (wordFrom t from)
-  pub number : b .whole ≡ true → moreBits (numberWith true true false 0) (wordFrom t from) ≡ numberWith true true false (b .number)
+  pub number :
+      b .whole ≡ true → moreBits (numberWith true true false 0) (wordFrom t from) ≡ numberWith true (b .known) false (b .number)
 
 -- ---- codes
 

@@ -1,16 +1,18 @@
-// Changes and times that give no command, in a place where a change may stand.
+// Changes, times that give no command, comments, and the ends of blocks, in a place where a change may stand.
 ghost use mathlib.Core.Path.{_≡_};
-ghost use mathlib.Core.Bool.{true, not, _&&_, _||_};
+ghost use mathlib.Core.Bool.{not, _&&_};
 ghost use Rattle.recording.specs.Records.{variableWith};
 ghost use lib.ListN.{length};
 ghost use lib.Dec.{ltb, eqb};
-ghost use Rattle.recording.specs.declared.Place.the-variants.{Body};
-ghost use Rattle.vcd_reader.specs.Changes.{givenWith, knownVector, placedWith, passedWith, changedTo, withLevel, VectorThere, Places, QuietTime, Quiet};
+ghost use Rattle.vcd_reader.specs.Skipping.{changePlace};
+ghost use Rattle.vcd_reader.specs.Changes.{givenWith, bitsVector, placedWith, passedWith, changedTo, withLevel, VectorThere, Places, QuietTime, Quiet};
 use crate::Given;
 use crate::Passed;
 use crate::Placed;
 use crate::Timed;
 use crate::runs;
+use crate::skipping;
+use recording::Place;
 use recording::Reader;
 use recording::Value;
 use recording::Variable;
@@ -18,6 +20,7 @@ use recording::Variables;
 use recording::Vector;
 use vcd_words::readers;
 use vcd_words::scanning;
+use vcd_words::words;
 
 // ---- vectors
 
@@ -31,35 +34,32 @@ fn given_with(end: usize, code: u32, v: Vector) -> Given
     }
 }
 
-fn known_vector(length: u8, number: u16) -> Vector
-    ensures { λ r. ⌜ r ≡ knownVector length number ⌝ }
+fn bits_vector(length: u8, known: bool, number: u16) -> Vector
+    ensures { λ r. ⌜ r ≡ bitsVector length known number ⌝ }
 {
-    Vector {
-        length,
-        value: Value {
-            known: true,
-            number,
-        },
+    if known {
+        return readers::vector_with(length, readers::value_with(true, number));
     }
+    readers::vector_with(length, readers::value_with(false, 0))
 }
 
-// After b or B, from an offset on: bits, all of them 0 or 1, and a code.
+// After b or B, from an offset on: bits, and a code.
 fn vector_at(text: &[u8], from: usize) -> Given
     ensures { λ r. ⌜ VectorThere (now (text .entry)) from r ⌝ }
 {
-    let bits = runs::ones(text, from);
+    let bits = runs::bits(text, from);
     let end = bits.end;
     if !bits.whole {
-        return given_with(end, 0, known_vector(0, 0));
+        return given_with(end, 0, bits_vector(0, false, 0));
     }
     if end <= from {
-        return given_with(end, 0, known_vector(0, 0));
+        return given_with(end, 0, bits_vector(0, false, 0));
     }
     if 255 < end - from {
-        return given_with(end, 0, known_vector(0, 0));
+        return given_with(end, 0, bits_vector(0, false, 0));
     }
     let c = runs::code_at(text, runs::skip(text, end));
-    let v = known_vector((end - from) as u8, (bits.number % 65536) as u16);
+    let v = bits_vector((end - from) as u8, bits.known, (bits.number % 65536) as u16);
     given_with(runs::skip(text, c.end), c.code, v)
 }
 
@@ -120,11 +120,10 @@ fn is_coded(v: Variable, code: u32) -> bool
 }
 
 fn with_level(vs: Variables, b: u8) -> Variables
-    requires { ⌜ (eqb b 48 || eqb b 49) ≡ true ⌝ }
     ensures { λ r. ⌜ r ≡ withLevel vs b ⌝ }
 {
     let mut next = vs;
-    next.stb = with_value(vs.stb, readers::value_with(true, (b - 48) as u16));
+    next.stb = with_value(vs.stb, words::bit_value(b));
     next
 }
 
@@ -160,17 +159,29 @@ fn quiet_time(text: &[u8], from: usize, opened: bool, level: Value, up: bool, ti
     t
 }
 
+// A time may stand here, and ends an open stamp.
+fn ends_stamp(opened: bool, block: bool) -> bool
+    ensures { λ r. ⌜ r ≡ (opened && not block) ⌝ }
+{
+    if block {
+        return false;
+    }
+    opened
+}
+
 // ---- all of them
 
-// Whole changes and times that give no command, as far as they go. What stops them is left to what reads any word.
-pub fn quiet(text: &[u8], from: usize, r: Reader) -> Passed
-    requires { ⌜ (r .place ≡ Body) × (r .fault .number ≡ 0) ⌝ }
+// Whole changes, times that give no command, comments, and the ends of blocks, as far as they go. What stops them is left to what reads
+// any word.
+pub fn quiet(text: &[u8], from: usize, r: Reader, inside: bool) -> Passed
+    requires { ⌜ (r .place ≡ changePlace inside) × (r .fault .number ≡ 0) ⌝ }
     ensures { λ p. ⌜ Quiet (now (text .entry)) from r p ⌝ }
 {
     let mut now = r.variables;
     let mut last = r.pending.vector;
     let mut time = r.stamp.time;
     let mut up = r.stamp.up;
+    let mut block = inside;
     let mut i = runs::skip(text, from);
     while i < text.len() {
         let b = text[i];
@@ -183,7 +194,7 @@ pub fn quiet(text: &[u8], from: usize, r: Reader) -> Passed
             now = p.variables;
             last = g.vector;
             i = g.end;
-        } else if runs::is_known(b) {
+        } else if scanning::is_bit(b) {
             let c = runs::code_at(text, i + 1);
             if !is_coded(now.stb, c.code) {
                 break;
@@ -191,7 +202,8 @@ pub fn quiet(text: &[u8], from: usize, r: Reader) -> Passed
             now = with_level(now, b);
             i = runs::skip(text, c.end);
         } else if b == 35 {
-            let t = quiet_time(text, i + 1, r.stamp.opened, now.stb.value, up, time);
+            let opened = ends_stamp(r.stamp.opened, block);
+            let t = quiet_time(text, i + 1, opened, now.stb.value, up, time);
             if !t.whole {
                 break;
             }
@@ -199,22 +211,48 @@ pub fn quiet(text: &[u8], from: usize, r: Reader) -> Passed
             time = t.time;
             i = runs::skip(text, t.end);
         } else {
-            break;
+            let k = skipping::turn(text, i, block);
+            if !k.found {
+                break;
+            }
+            block = k.block;
+            i = runs::skip(text, k.end);
         }
     }
-    changed(i, r, now, last, time, up)
+    changed(i, r, now, last, time, up, block)
 }
 
-// The reader with what changes and times give it.
-fn changed(end: usize, r: Reader, vs: Variables, v: Vector, time: u64, up: bool) -> Passed
-    ensures { λ p. ⌜ p ≡ passedWith end (changedTo r vs v time up) ⌝ }
+fn place_of(block: bool) -> Place
+    ensures { λ r. ⌜ r ≡ changePlace block ⌝ }
+{
+    if block {
+        return Place::Block;
+    }
+    Place::Body
+}
+
+// The reader with what changes and times give it, in a block or not.
+fn changed(
+    end: usize,
+    r: Reader,
+    vs: Variables,
+    v: Vector,
+    time: u64,
+    up: bool,
+    block: bool,
+) -> Passed
+    ensures { λ p. ⌜ p ≡ passedWith end (changedTo block r vs v time up) block ⌝ }
 {
     let mut pending = r.pending;
     pending.vector = v;
-    let mut next = r;
+    let mut next = readers::at(r, place_of(block));
     next.variables = vs;
     next.pending = pending;
     next.stamp.time = time;
     next.stamp.up = up;
-    Passed { end, reader: next }
+    Passed {
+        end,
+        reader: next,
+        block,
+    }
 }

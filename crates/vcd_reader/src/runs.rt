@@ -1,20 +1,20 @@
 // Words that begin at an offset, each byte read once. Each answers for the usual word, and leaves the others to vcd_words.
+ghost use Prim.Native.Nat.{_+_};
 ghost use mathlib.Core.Path.{_≡_};
-ghost use mathlib.Core.List.{[]};
-ghost use mathlib.Core.Bool.{true, _||_};
-ghost use lib.ListN.{drop};
+ghost use mathlib.Core.Bool.{_||_};
+ghost use lib.ListN.{length};
 ghost use lib.Dec.{eqb};
 ghost use Rattle.lists.specs.Numbers.{between};
-ghost use Rattle.vcd_words.specs.Partial.{run};
-ghost use Rattle.vcd_reader.specs.Runs.{bitsWith, codedWith, timedWith, Ones, CodeThere, TimeThere, Skips};
+ghost use Rattle.recording.specs.Words.{isEmpty};
+ghost use Rattle.vcd_reader.specs.Runs.{wordFrom, bitsWith, codedWith, timedWith, BitsThere, CodeThere, TimeThere, Skips};
 use crate::Bits;
 use crate::Coded;
 use crate::Timed;
 use vcd_words::scanning;
 
 // Whether no byte of a word stands at an offset.
-fn is_end(text: &[u8], at: usize) -> bool
-    ensures { λ b. ⌜ (b ≡ true → run (drop at (now (text .entry))) ≡ []) ⌝ }
+pub fn is_end(text: &[u8], at: usize) -> bool
+    ensures { λ b. ⌜ b ≡ isEmpty (wordFrom (now (text .entry)) at) ⌝ }
 {
     if at < text.len() {
         return scanning::is_separator(text[at]);
@@ -36,10 +36,24 @@ pub fn skip(text: &[u8], from: usize) -> usize
     i
 }
 
+// The first separator, or the end of the text.
+pub fn past(text: &[u8], from: usize) -> usize
+    ensures { λ r. ⌜ r ≡ from + length (wordFrom (now (text .entry)) from) ⌝ }
+{
+    let mut i = from;
+    while i < text.len() {
+        if scanning::is_separator(text[i]) {
+            break;
+        }
+        i += 1;
+    }
+    i
+}
+
 // ---- bits
 
 // 0 or 1.
-pub fn is_known(b: u8) -> bool
+fn is_known(b: u8) -> bool
     ensures { λ r. ⌜ r ≡ (eqb b 48 || eqb b 49) ⌝ }
 {
     if b == 48 {
@@ -48,14 +62,19 @@ pub fn is_known(b: u8) -> bool
     b == 49
 }
 
-fn bits_with(whole: bool, end: usize, number: u64) -> Bits
-    ensures { λ r. ⌜ r ≡ bitsWith whole end number ⌝ }
+fn bits_with(whole: bool, known: bool, end: usize, number: u64) -> Bits
+    ensures { λ r. ⌜ r ≡ bitsWith whole known end number ⌝ }
 {
-    Bits { whole, end, number }
+    Bits {
+        whole,
+        known,
+        end,
+        number,
+    }
 }
 
-pub fn ones(text: &[u8], from: usize) -> Bits
-    ensures { λ r. ⌜ Ones (now (text .entry)) from r ⌝ }
+fn ones(text: &[u8], from: usize) -> Bits
+    ensures { λ r. ⌜ BitsThere (now (text .entry)) from r ⌝ }
 {
     let mut number = 0u64;
     let mut i = from;
@@ -67,7 +86,37 @@ pub fn ones(text: &[u8], from: usize) -> Bits
         number = scanning::with_bit(number, b);
         i += 1;
     }
-    bits_with(is_end(text, i), i, number)
+    bits_with(is_end(text, i), true, i, number)
+}
+
+// With x and z among them.
+fn mixed(text: &[u8], from: usize) -> Bits
+    ensures { λ r. ⌜ BitsThere (now (text .entry)) from r ⌝ }
+{
+    let mut number = 0u64;
+    let mut known = true;
+    let mut i = from;
+    while i < text.len() {
+        let b = text[i];
+        if !scanning::is_bit(b) {
+            break;
+        }
+        number = scanning::with_bit(number, b);
+        known = scanning::still_known(known, b);
+        i += 1;
+    }
+    bits_with(is_end(text, i), known, i, number)
+}
+
+// Most are 0 and 1.
+pub fn bits(text: &[u8], from: usize) -> Bits
+    ensures { λ r. ⌜ BitsThere (now (text .entry)) from r ⌝ }
+{
+    let b = ones(text, from);
+    if b.whole {
+        return b;
+    }
+    mixed(text, from)
 }
 
 // ---- codes
@@ -129,13 +178,16 @@ pub fn code_at(text: &[u8], from: usize) -> Coded
 
 // ---- times
 
+// A tenth of 2^64 - 1.
+const TENTH: u64 = 1844674407370955161;
+
 pub fn timed_with(whole: bool, end: usize, time: u64) -> Timed
     ensures { λ r. ⌜ r ≡ timedWith whole end time ⌝ }
 {
     Timed { whole, end, time }
 }
 
-// Times of up to 19 digits, so that each fits.
+// A time below TENTH takes any digit more, and fits.
 pub fn time_at(text: &[u8], from: usize) -> Timed
     ensures { λ r. ⌜ TimeThere (now (text .entry)) from r ⌝ }
 {
@@ -146,7 +198,7 @@ pub fn time_at(text: &[u8], from: usize) -> Timed
         if !scanning::is_digit(b) {
             break;
         }
-        if 1000000000000000000 <= time {
+        if TENTH <= time {
             return timed_with(false, i, 0);
         }
         time = time * 10 + (b - 48) as u64;

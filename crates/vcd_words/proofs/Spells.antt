@@ -108,7 +108,7 @@ same-refl : (w : List ℕ) → sameBytes w w ≡ true
 same-refl [] = refl
 same-refl (b ∷ w) = and-in (eq-eqb b b refl) (same-refl w)
 
-same-eq : (w k : List ℕ) → sameBytes w k ≡ true → w ≡ k
+pub same-eq : (w k : List ℕ) → sameBytes w k ≡ true → w ≡ k
 same-eq [] [] e = refl
 same-eq [] (b ∷ k) e = absurd (true≢false (sym e))
 same-eq (a ∷ w) [] e = absurd (true≢false (sym e))

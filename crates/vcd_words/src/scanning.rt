@@ -183,7 +183,7 @@ pub fn is_bit(b: u8) -> bool
     b == 90
 }
 
-fn still_known(known: bool, b: u8) -> bool
+pub fn still_known(known: bool, b: u8) -> bool
     ensures { λ r. ⌜ r ≡ (known && isDefinite (bitOf b)) ⌝ }
 {
     if !known {

@@ -111,7 +111,7 @@ fn name(r: Reader, at: u64, p: Partial) -> Reader
 // ---- changes
 
 // The value of one bit.
-fn bit_value(b: u8) -> Value
+pub fn bit_value(b: u8) -> Value
     ensures { λ v. ⌜ v ≡ bitValue b ⌝ }
 {
     if b == 48 {

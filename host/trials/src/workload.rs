@@ -1,9 +1,10 @@
 //! The benchmark's commands: a mixed run from a seed, with about as many refused commands as a busy controller sees; and the same run as
-//! a recording.
+//! a recording, in the form of document 01's example or mostly made of something else.
 
 use std::fmt::Write;
 
 use psic_reference::generate::{self, Mix};
+use psic_reference::random::Random;
 use psic_reference::records::Command;
 
 use crate::library::numbers;
@@ -25,22 +26,122 @@ $upscope $end
 $enddefinitions $end
 "#;
 
+/// What a recording is mostly made of, besides commands.
+#[derive(Clone, Copy, Debug, PartialEq, Eq)]
+pub enum Mostly {
+    /// Six changes and two times for each command, as in document 01's example.
+    Plain,
+    /// A comment before each command, some ten times as long as its changes.
+    Comments,
+    /// A definition that is skipped for each command, as long as such a comment.
+    Definitions,
+    /// The values of each command in a block, and all variables in another one after it.
+    Blocks,
+    /// x or z for every value that a command doesn't use, some of it in capitals, and x in stb before it is given.
+    Unknown,
+    /// Lines that end with a carriage return and a line feed.
+    LineEnds,
+    /// Each word on a line of its own.
+    Lines,
+}
+
+impl Mostly {
+    /// All of them, by the names that the benchmark has for them.
+    pub const NAMED: [(&'static str, Mostly); 7] = [
+        ("plain", Mostly::Plain),
+        ("comments", Mostly::Comments),
+        ("definitions", Mostly::Definitions),
+        ("blocks", Mostly::Blocks),
+        ("unknown", Mostly::Unknown),
+        ("line-ends", Mostly::LineEnds),
+        ("lines", Mostly::Lines),
+    ];
+}
+
 /// Commands as a recording in the form of document 01's example: six changes and two times each, an unused value as 0. Of an argument that
 /// is too large for its variable the lower bits are recorded.
 pub fn recording(commands: &[Command]) -> String {
-    let mut text = DEFINITIONS.to_string();
-    for (i, &command) in commands.iter().enumerate() {
-        let (number, at, priority) = numbers(command);
-        let (core, arg) = match command {
-            Command::SetCorePriority(..) | Command::Claim(_) => (at % 32, 0),
-            _ => (0, at % 256),
-        };
-        let (up, down, prio) = (2 * i, 2 * i + 1, priority % 512);
-        write!(
-            text,
-            "#{up}\nb{number:b} \"\nb{core:b} #\nb{arg:b} $\nb{prio:b} %\n1!\n#{down}\n0!\n"
-        )
-        .expect("memory takes all of it");
+    recording_of(Mostly::Plain, 0, commands)
+}
+
+/// Commands as a recording of this kind, which a seed determines; the same commands are read from all kinds.
+pub fn recording_of(kind: Mostly, seed: u64, commands: &[Command]) -> String {
+    let random = &mut Random::new(seed);
+    let mut text = String::new();
+    if kind == Mostly::Definitions {
+        for _ in commands {
+            let word = random.pick(&["$date", "$version", "$comment", "$scope", "$upscope"]);
+            text += &skipped(random, word);
+        }
     }
-    text
+    text += DEFINITIONS;
+    for (i, &command) in commands.iter().enumerate() {
+        if kind == Mostly::Comments {
+            text += &skipped(random, "$comment");
+        }
+        let [cmd, core, arg, prio] = values(kind, random, command);
+        let changes = format!("b{cmd} \"\nb{core} #\nb{arg} $\nb{prio} %\n");
+        let (up, down) = (2 * i, 2 * i + 1);
+        let stamps = match kind {
+            Mostly::Blocks => {
+                let block = random.pick(&["$dumpvars", "$dumpall", "$dumpon", "$dumpoff"]);
+                let all = format!("$dumpall\n0!\n{changes}$end\n");
+                format!("#{up}\n{block}\n{changes}1!\n$end\n#{down}\n{all}{all}")
+            }
+            Mostly::Unknown => format!("#{up}\nx!\n{changes}1!\n#{down}\nZ!\n0!\n"),
+            _ => format!("#{up}\n{changes}1!\n#{down}\n0!\n"),
+        };
+        text += &stamps;
+    }
+    match kind {
+        Mostly::LineEnds => text.replace('\n', "\r\n"),
+        Mostly::Lines => text.replace(' ', "\n"),
+        _ => text,
+    }
+}
+
+/// The bits of cmd, core, arg and prio for a command.
+fn values(kind: Mostly, random: &mut Random, command: Command) -> [String; 4] {
+    let (number, at, priority) = numbers(command);
+    let for_core = matches!(command, Command::SetCorePriority(..) | Command::Claim(_));
+    let with_priority = matches!(
+        command,
+        Command::SetCorePriority(..) | Command::SetSourcePriority(..)
+    );
+    let mut bits = |used: bool, value: u16| match kind {
+        Mostly::Unknown if !used => random
+            .pick(&["x", "z", "X", "0Z1", "x10", "zzzz"])
+            .to_string(),
+        _ => format!("{:b}", if used { value } else { 0 }),
+    };
+    [
+        bits(true, number.into()),
+        bits(for_core, at % 32),
+        bits(!for_core, at % 256),
+        bits(with_priority, priority % 512),
+    ]
+}
+
+/// Words up to `$end` that are skipped, most of them such as people and tools write.
+fn skipped(random: &mut Random, first: &str) -> String {
+    const WORDS: [&str; 12] = [
+        "the",
+        "monitor",
+        "was",
+        "restarted",
+        "at",
+        "12:07:33",
+        "(unit",
+        "3)",
+        "$endl",
+        "b1",
+        "#5",
+        "a",
+    ];
+    let mut text = first.to_string();
+    for _ in 0..random.within(40..=120) {
+        let space = if random.one_in(12) { "\n" } else { " " };
+        write!(text, "{space}{}", random.pick(&WORDS)).expect("memory takes all of it");
+    }
+    text + " $end\n"
 }

@@ -2,7 +2,7 @@
 //!
 //! usage: bench workload N M COUNT SEED FILE         writes the seeded workload, 5 bytes a command
 //!        bench library|fast N M COUNT FILE          runs its first COUNT commands from a fresh controller
-//!        bench recording N M COUNT SEED FILE        writes the seeded workload as a recording
+//!        bench recording KIND N M COUNT SEED FILE   writes the seeded workload as a recording of a kind (plain, comments, ..)
 //!        bench read library|reference FILE          reads the recording
 //!        bench replay library|reference N M FILE    replays it; beside the library, the reference reader and the fast model
 //!
@@ -12,6 +12,7 @@ use psic::recording::MAX_COMMANDS;
 use psic::{raw, ANSWER_SIZE, COMMAND_SIZE, STATE_SIZE};
 use psic_reference::recording;
 use psic_reference::records::{Answer, Command, CoreNumber, SourceId};
+use psic_trials::workload::Mostly;
 use psic_trials::{fast, library, workload};
 
 fn main() {
@@ -23,8 +24,9 @@ fn main() {
             let bytes: Vec<u8> = commands.iter().flat_map(|&c| library::encoded(c)).collect();
             return write(file, &bytes);
         }
-        ["recording", n, m, count, seed, file] => {
-            let text = workload::recording(&seeded(n, m, count, seed));
+        ["recording", kind, n, m, count, seed, file] => {
+            let commands = seeded(n, m, count, seed);
+            let text = workload::recording_of(kind_of(kind), number(seed), &commands);
             return write(file, text.as_bytes());
         }
         ["library", n, m, count, file] => {
@@ -57,6 +59,11 @@ fn number(word: &str) -> u64 {
 
 fn size(word: &str) -> u16 {
     number(word) as u16
+}
+
+fn kind_of(word: &str) -> Mostly {
+    let named = Mostly::NAMED.into_iter().find(|&(name, _)| name == word);
+    named.unwrap_or_else(|| panic!("{word} is no kind")).1
 }
 
 fn read(file: &str) -> Vec<u8> {

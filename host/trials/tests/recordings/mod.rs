@@ -7,7 +7,7 @@ use psic_reference::recording::{self, Reason};
 use psic_reference::records::{Command, SourceId};
 use psic_reference::texts::{edges, text, Kind, Texts};
 use psic_trials::recordings::{Library, Reader, Trial, Wrapper};
-use psic_trials::workload;
+use psic_trials::workload::{self, Mostly};
 
 use crate::hex;
 use crate::slips::{with_slip, Slip};
@@ -145,6 +145,28 @@ fn the_benchmarks_recording_is_in_the_form_of_document_01s() {
         assert_eq!((reading.commands.len(), reading.fault), (1000, None));
         assert_eq!(Library.reading(text.as_bytes(), 0), Ok(()));
         assert_eq!(Library.replay(n, m, text.as_bytes(), 0), Ok(()));
+    }
+}
+
+/// From every kind of recording the same commands are read, and what it is mostly made of is in it.
+#[test]
+fn the_benchmarks_kinds_hold_the_same_commands() {
+    let commands = workload::commands(run_seed(), 32, 2, 300);
+    let plain = psic::read(workload::recording(&commands).as_bytes());
+    for (name, kind) in Mostly::NAMED {
+        let text = workload::recording_of(kind, run_seed(), &commands);
+        let held = match kind {
+            Mostly::Plain | Mostly::Lines => "\n",
+            Mostly::Comments => "$comment",
+            Mostly::Definitions => "$version",
+            Mostly::Blocks => "$dumpoff",
+            Mostly::Unknown => "bX",
+            Mostly::LineEnds => "\r\n",
+        };
+        assert!(text.contains(held), "{name}");
+        assert_eq!(psic::read(text.as_bytes()), plain, "{name}");
+        assert_eq!(Library.reading(text.as_bytes(), 0), Ok(()), "{name}");
+        assert_eq!(Library.replay(32, 2, text.as_bytes(), 0), Ok(()), "{name}");
     }
 }
 

@@ -9,24 +9,25 @@ use borrow.Author.Tests.{not-false}
 use Rattle.vcd_words.proofs.Asked.{passed}
 use Rattle.vcd_reader.specs.Advances.{Follows}
 use Rattle.vcd_reader.specs.Changes.{changedTo, CodedVector}
-use Rattle.vcd_reader.proofs.Follows.{follows-then, follows-passes}
-use Rattle.vcd_reader.proofs.Changing.{some-code, quiet-vector, quiet-level, quiet-time}
+use Rattle.vcd_reader.proofs.Follows.{follows-then, follows-skips}
+use Rattle.vcd_reader.proofs.Changing.{some-code, quiet-start, quiet-vector, quiet-level, quiet-time}
 use Rattle.vcd_reader.proofs.changes.quiet.Statement.{statement}
 use Rattle.vcd_reader.proofs.changes.quiet.Tie as tie
 
 abbrev Inv-loop : tie.InvT-loop
-Inv-loop text from r now₀ last₀ time₀ up₀ i₀ now last time up i = Follows text from r i (changedTo r now last time up)
+Inv-loop text from r inside now₀ last₀ time₀ up₀ block₀ i₀ now last time up block i =
+    Follows text from r i (changedTo block r now last time up)
 
 abbrev μ-loop : tie.MeasureT-loop
-μ-loop text from r now₀ last₀ time₀ up₀ i₀ now last time up i = length text - i
+μ-loop text from r inside now₀ last₀ time₀ up₀ block₀ i₀ now last time up block i = length text - i
 
 skip-requires : tie.Need-skip-requires Inv-loop μ-loop
 skip-requires c κs = search needs
 
 loop-holds : tie.Need-loop-holds Inv-loop μ-loop
 loop-holds c =
-    let s = c .skip .ensures in
-    follows-passes _ _ _ _ (s .moves) (s .within) (s .passes)
+    let start = c .before .before .before .before in
+    quiet-start _ _ _ (start .args .r) (start .args .inside) (start .pre .0) (c .skip .ensures)
 
 shared-slice-read-b : tie.Need-shared-slice-read-b Inv-loop μ-loop
 shared-slice-read-b c = omega arith
@@ -70,12 +71,12 @@ loop-again c =
     let start = at .before .before .before .before .before in
     let l = at .loop in
     follows-then _ (l .inv)
-    (quiet-vector _ (l .i) (inside .loop-test .taken) (start .args .r) (start .pre .0) (start .pre .1) (l .now) (l .last) (l .time) (l .up)
+    (quiet-vector _ (l .i) (inside .loop-test .taken) (start .args .r) (start .pre .1) (l .block) (l .now) (l .last) (l .time) (l .up)
     _ (put .before .vector-at .result) (put .placed .result) refl (sym (is .before .is-binary .ensures) ∙ is .if1 .taken) (vector took)
     (put .placed .ensures) (not-false _ (took .if2 .left)))
 
-is-known-requires : tie.Need-is-known-requires Inv-loop μ-loop
-is-known-requires c κs = search needs
+is-bit-requires : tie.Need-is-bit-requires Inv-loop μ-loop
+is-bit-requires c κs = search needs
 
 add-code-at : tie.Need-add-code-at Inv-loop μ-loop
 add-code-at c = omega arith
@@ -87,9 +88,7 @@ is-coded-requires : tie.Need-is-coded-requires Inv-loop μ-loop
 is-coded-requires c κs = search needs
 
 with-level-requires : tie.Need-with-level-requires Inv-loop μ-loop
-with-level-requires c κs =
-    let known = c .before .before .before in
-    sym (known .before .is-known .ensures) ∙ known .if3 .taken
+with-level-requires c κs = search needs
 
 skip-requires-2 : tie.Need-skip-requires-2 Inv-loop μ-loop
 skip-requires-2 c κs = search needs
@@ -108,19 +107,22 @@ loop-again-2 : tie.Need-loop-again-2 Inv-loop μ-loop
 loop-again-2 c =
     let coded = c .before .before .before in
     let code = coded .before in
-    let known = code .before in
-    let inside = known .before .before .before .before .before in
+    let bit = code .before in
+    let inside = bit .before .before .before .before .before in
     let at = inside .before in
     let start = at .before .before .before .before .before in
     let l = at .loop in
     rw (c .before .with-level .ensures)
     (follows-then _ (l .inv)
-    (quiet-level _ (l .i) (inside .loop-test .taken) (start .args .r) (start .pre .0) (start .pre .1) (l .now) (l .last) (l .time) (l .up)
-    _ (code .code-at .result) (c .skip2 .result) refl (sym (known .before .is-known .ensures) ∙ known .if3 .taken) (code .code-at .ensures)
+    (quiet-level _ (l .i) (inside .loop-test .taken) (start .args .r) (start .pre .1) (l .block) (l .now) (l .last) (l .time) (l .up)
+    _ (code .code-at .result) (c .skip2 .result) refl (sym (bit .before .is-bit .ensures) ∙ bit .if3 .taken) (code .code-at .ensures)
     (passed (coded .is-coded .ensures) (c .before .before .if4 .left)) (c .skip2 .ensures)))
 
 add-quiet-time : tie.Need-add-quiet-time Inv-loop μ-loop
 add-quiet-time c = omega arith
+
+ends-stamp-requires : tie.Need-ends-stamp-requires Inv-loop μ-loop
+ends-stamp-requires c κs = search needs
 
 quiet-time-requires : tie.Need-quiet-time-requires Inv-loop μ-loop
 quiet-time-requires c κs = search needs
@@ -133,22 +135,48 @@ loop-less-3 c =
     let whole = c .before .before in
     let asked = whole .before .before in
     let there = asked .quiet-time .ensures .there .end (not-false _ (whole .if6 .left)) in
-    let inside = asked .before .before .before .before .before .before .before in
+    let inside = asked .before .before .before .before .before .before .before .before in
     omega (arith, there, c .skip3 .ensures .moves, inside .loop-test .taken)
 
 loop-again-3 : tie.Need-loop-again-3 Inv-loop μ-loop
 loop-again-3 c =
     let whole = c .before .before in
     let asked = whole .before .before in
-    let is = asked .before in
+    let ends = asked .before in
+    let is = ends .before in
     let inside = is .before .before .before .before .before .before in
     let at = inside .before in
     let start = at .before .before .before .before .before in
     let l = at .loop in
     follows-then _ (l .inv)
-    (quiet-time _ (l .i) (inside .loop-test .taken) (start .args .r) (start .pre .0) (start .pre .1) (l .now) (l .last) (l .time) (l .up)
-    (asked .quiet-time .result) (c .skip3 .result) (is .if5 .taken) (asked .quiet-time .ensures) (not-false _ (whole .if6 .left))
+    (quiet-time _ (l .i) (inside .loop-test .taken) (start .args .r) (start .pre .1) (l .block) (l .now) (l .last) (l .time) (l .up)
+    (asked .quiet-time .result) (c .skip3 .result) (ends .ends-stamp .result) (is .if5 .taken) (ends .ends-stamp .ensures)
+    (asked .quiet-time .ensures) (not-false _ (whole .if6 .left))
     (c .skip3 .ensures))
+
+turn-requires : tie.Need-turn-requires Inv-loop μ-loop
+turn-requires c κs = search needs
+
+skip-requires-4 : tie.Need-skip-requires-4 Inv-loop μ-loop
+skip-requires-4 c κs = search needs
+
+loop-less-4 : tie.Need-loop-less-4 Inv-loop μ-loop
+loop-less-4 c =
+    let found = c .before in
+    let passed = found .before .before in
+    let inside = passed .before .before .before .before .before .before .before in
+    omega
+    (arith, passed .turn .ensures .moves (not-false _ (found .if7 .left)), c .skip4 .ensures .moves, inside .loop-test .taken)
+
+loop-again-4 : tie.Need-loop-again-4 Inv-loop μ-loop
+loop-again-4 c =
+    let found = c .before in
+    let passed = found .before .before in
+    let at = passed .before .before .before .before .before .before .before .before in
+    let start = at .before .before .before .before .before in
+    follows-then _ (at .loop .inv)
+    (follows-then _ (passed .turn .ensures .follows (not-false _ (found .if7 .left)) _ refl (start .pre .1))
+    (follows-skips _ _ _ _ (c .skip4 .ensures)))
 
 changed-requires : tie.Need-changed-requires Inv-loop μ-loop
 changed-requires c κs = search needs
@@ -157,7 +185,7 @@ returns : tie.Need-returns Inv-loop μ-loop
 returns c =
     let at = c .before .before in
     let start = at .before .before .before .before .before in
-    rw (c .changed .ensures) (record { follows = at .loop .inv; place = start .pre .0; good = start .pre .1 })
+    rw (c .changed .ensures) (record { follows = at .loop .inv; place = refl; good = start .pre .1 })
 
 pub quiet-spec : {M : Type 1} → statement M
 quiet-spec =
@@ -174,7 +202,7 @@ quiet-spec =
     placed-requires
     loop-less
     loop-again
-    is-known-requires
+    is-bit-requires
     add-code-at
     code-at-requires
     is-coded-requires
@@ -182,10 +210,15 @@ quiet-spec =
     skip-requires-2
     loop-less-2
     loop-again-2
+    ends-stamp-requires
     add-quiet-time
     quiet-time-requires
     skip-requires-3
     loop-less-3
     loop-again-3
+    turn-requires
+    skip-requires-4
+    loop-less-4
+    loop-again-4
     changed-requires
     returns)

@@ -1,7 +1,7 @@
 -- `vcd_reader::runs::code_at` meets its contract. Assumes nothing.
 use native.Mathlib.Omega.{arith}
 use Rattle.vcd_words.proofs.Asked.{passed}
-use Rattle.vcd_reader.proofs.Reaching.{one-code, no-code}
+use Rattle.vcd_reader.proofs.Reaching.{over, one-code, no-code}
 use borrow.Author.Needs.{needs}
 use Rattle.vcd_reader.proofs.runs.code_at.Statement.{statement}
 use Rattle.vcd_reader.proofs.runs.code_at.Tie as tie
@@ -46,7 +46,7 @@ returns-3 c =
     let ended = c .before .before in
     let is = ended .before .before in
     one-code _ _ _ (c .coded-with3 .ensures) (is .before .before .if1 .left) (passed (is .is-printable .ensures) (ended .before .if2 .left))
-    (ended .is-end .ensures (c .before .if3 .taken))
+    (over _ (ended .is-end .ensures) (c .before .if3 .taken))
 
 long-code-requires : tie.Need-long-code-requires
 long-code-requires c κs = search needs

@@ -1,7 +1,9 @@
 -- `vcd_reader::runs::is_end` meets its contract. Assumes nothing.
-use mathlib.Core.Path.{sym, _∙_}
+use mathlib.Core.Path.{sym, ap, _∙_}
+use Rattle.recording.specs.Words.{isEmpty}
 use borrow.Author.Needs.{needs}
-use Rattle.vcd_words.proofs.Bytes.{run-separator, run-end}
+use Rattle.vcd_words.proofs.Bytes.{run-end}
+use Rattle.vcd_reader.proofs.Reaching.{is-over}
 use Rattle.vcd_reader.proofs.runs.is_end.Statement.{statement}
 use Rattle.vcd_reader.proofs.runs.is_end.Tie as tie
 
@@ -12,10 +14,10 @@ is-separator-requires : tie.Need-is-separator-requires
 is-separator-requires c κs = search needs
 
 returns : tie.Need-returns
-returns c = λ e. run-separator _ _ (c .before .before .if1 .taken) (sym (c .is-separator .ensures) ∙ e)
+returns c = c .is-separator .ensures ∙ is-over _ _ (c .before .before .if1 .taken)
 
 returns-2 : tie.Need-returns-2
-returns-2 c = λ e. run-end _ _ (c .if1 .left)
+returns-2 c = sym (ap isEmpty (run-end _ _ (c .if1 .left)))
 
 pub is-end-spec : {M : Type 1} → statement M
 is-end-spec =

@@ -5,7 +5,7 @@ use lib.ListN.{length}
 use native.Mathlib.Omega.{arith}
 use borrow.Author.Needs.{needs}
 use Rattle.vcd_words.proofs.Asked.{passed}
-use Rattle.vcd_reader.proofs.Reaching.{CodeTo, code-none, code-more, code-there, no-code}
+use Rattle.vcd_reader.proofs.Reaching.{over, CodeTo, code-none, code-more, code-there, no-code}
 use Rattle.vcd_reader.proofs.runs.long_code.Statement.{statement}
 use Rattle.vcd_reader.proofs.runs.long_code.Tie as tie
 
@@ -61,7 +61,8 @@ coded-with-requires-2 c κs = search needs
 returns-2 : tie.Need-returns-2 Inv-loop μ-loop
 returns-2 c =
     let l = c .before .before .before .before .loop in
-    code-there _ _ _ (l .code) (l .i) (c .coded-with2 .ensures) (l .inv) (c .before .before .is-end .ensures (c .before .if3 .taken))
+    code-there _ _ _ (l .code) (l .i) (c .coded-with2 .ensures) (l .inv)
+    (over _ (c .before .before .is-end .ensures) (c .before .if3 .taken))
 
 coded-with-requires-3 : tie.Need-coded-with-requires-3 Inv-loop μ-loop
 coded-with-requires-3 c κs = search needs

@@ -1,22 +1,23 @@
--- `vcd_reader::runs::ones` meets its contract. The loop's invariant is `OnesTo`. The measure is what is left of the text.
+-- `vcd_reader::runs::ones` meets its contract. The loop's invariant is `BitsTo`. The measure is what is left of the text.
 -- Assumes nothing.
 use Prim.Native.Nat.{_-_}
+use mathlib.Core.Bool.{true}
 use lib.ListN.{length}
 use native.Mathlib.Omega.{arith}
 use borrow.Author.Needs.{needs}
 use Rattle.vcd_words.proofs.Asked.{passed}
-use Rattle.vcd_reader.proofs.Reaching.{OnesTo, ones-none, ones-more, ones-there}
+use Rattle.vcd_reader.proofs.Reaching.{over, BitsTo, bits-none, ones-more, bits-there}
 use Rattle.vcd_reader.proofs.runs.ones.Statement.{statement}
 use Rattle.vcd_reader.proofs.runs.ones.Tie as tie
 
 abbrev Inv-loop : tie.InvT-loop
-Inv-loop text from number₀ i₀ number i = OnesTo text from number i
+Inv-loop text from number₀ i₀ number i = BitsTo text from true number i
 
 abbrev μ-loop : tie.MeasureT-loop
 μ-loop text from number₀ i₀ number i = length text - i
 
 loop-holds : tie.Need-loop-holds Inv-loop μ-loop
-loop-holds c = ones-none _ _
+loop-holds c = bits-none _ _
 
 shared-slice-read-b : tie.Need-shared-slice-read-b Inv-loop μ-loop
 shared-slice-read-b c = omega arith
@@ -49,7 +50,7 @@ bits-with-requires c κs = search needs
 returns : tie.Need-returns Inv-loop μ-loop
 returns c =
     let l = c .before .before .before .loop in
-    ones-there _ _ _ _ (l .number) (l .i) (c .bits-with .ensures) (l .inv) (c .before .is-end .ensures)
+    bits-there _ _ _ _ _ (l .number) (l .i) (c .bits-with .ensures) (l .inv) (over _ (c .before .is-end .ensures))
 
 pub ones-spec : {M : Type 1} → statement M
 ones-spec =

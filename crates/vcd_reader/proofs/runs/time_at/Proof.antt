@@ -6,7 +6,7 @@ use native.Mathlib.Omega.{arith}
 use borrow.Author.Needs.{needs}
 use Rattle.vcd_words.proofs.Asked.{passed}
 use Rattle.vcd_words.proofs.Numbers.{digit-range}
-use Rattle.vcd_reader.proofs.Reaching.{TimeTo, time-none, time-more, time-there, no-time}
+use Rattle.vcd_reader.proofs.Reaching.{over, TimeTo, time-none, time-more, time-there, no-time}
 use Rattle.vcd_reader.proofs.runs.time_at.Statement.{statement}
 use Rattle.vcd_reader.proofs.runs.time_at.Tie as tie
 
@@ -81,7 +81,7 @@ returns-3 : tie.Need-returns-3 Inv-loop μ-loop
 returns-3 c =
     let ended = c .before in
     let l = ended .before .before .before .loop in
-    time-there _ _ _ _ (l .time) (l .i) (c .timed-with3 .ensures) (l .inv) (ended .before .if3 .left) (ended .is-end .ensures)
+    time-there _ _ _ _ (l .time) (l .i) (c .timed-with3 .ensures) (l .inv) (ended .before .if3 .left) (over _ (ended .is-end .ensures))
 
 pub time-at-spec : {M : Type 1} → statement M
 time-at-spec =
