@@ -1,5 +1,6 @@
 -- What is proved here, for the crates above.
 pub mod Tree
 pub mod Depth
+pub mod Ranges
 pub mod Keys
 pub mod ByKeys

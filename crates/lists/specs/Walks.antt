@@ -1,16 +1,20 @@
 -- Walks over the numbers below a bound, and the first winner of a row. Definitions only. Assumes nothing.
 --   every n f, some n f      f holds of each, of some number below n; every 0 f holds, some 0 f does not
+--   tally n f                how many numbers below n f holds of
 --   FirstOf above n w        w is the first highest of 0, .., n - 1
 --   winner above x y         the later contender y replaces x only if it is above x: x keeps a tie
 --   walk above n             the first highest of 0, .., n - 1, met in that order; 0 for an empty row
 --   halved d lo len          the comparator tree over lo, .., lo + len - 1, made by halving; d bounds its depth, and len is enough
 --   tree above d lo len      its winner, the first highest of the range; lo for an empty range
 --   comparisons d len        the comparisons on its longest path, which lo doesn't change
---   ranges d lo len          its ranges, each by start and length: single numbers too, none for an empty range
+--   ranges lo len            its ranges, each by start and length: single numbers too, none for an empty range
+--   occupied f lo len        how many of them have a number in them of which f holds
 use Prim.Native.Nat.{ℕ, zero, suc, _+_, _-_, _/_, _<_, _≤_, max}
 use mathlib.Core.Path.{_≡_}
 use mathlib.Core.List.{List, [], _∷_, _++_}
 use mathlib.Core.Bool.{Bool, true, false, _&&_, _||_, cond}
+use lib.ListN.{length}
+use Rattle.lists.specs.Rows.{filter}
 
 unfoldable pub every : ℕ → (ℕ → Bool) → Bool
 every zero f = true
@@ -19,6 +23,10 @@ every (suc k) f = every k f && f k
 unfoldable pub some : ℕ → (ℕ → Bool) → Bool
 some zero f = false
 some (suc k) f = some k f || f k
+
+unfoldable pub tally : ℕ → (ℕ → Bool) → ℕ
+tally zero f = 0
+tally (suc k) f = tally k f + cond (f k) 1 0
 
 abbrev pub winner : (ℕ → ℕ → Bool) → ℕ → ℕ → ℕ
 winner above x y = cond (above y x) y x
@@ -71,9 +79,17 @@ unfoldable pub comparisons : ℕ → ℕ → ℕ
 unfolding halved longestPath
 comparisons d len = longestPath (halved d 0 len)
 
-unfoldable pub ranges : ℕ → ℕ → ℕ → List (ℕ × ℕ)
+unfoldable pub ranges : ℕ → ℕ → List (ℕ × ℕ)
 unfolding halved rangesOf
-ranges d lo len = rangesOf (halved d lo len)
+ranges lo len = rangesOf (halved len lo len)
+
+-- f holds of some number of the range r.
+abbrev pub within : (ℕ → Bool) → ℕ × ℕ → Bool
+within f r = some (r .1) (λ i. f (r .0 + i))
+
+unfoldable pub occupied : (ℕ → Bool) → ℕ → ℕ → ℕ
+unfolding some filter ranges
+occupied f lo len = length (filter (within f) (ranges lo len))
 
 -- w is the first of the highest among 0, .., n - 1: above all before it, and none after it is above it.
 pub record FirstOf (above : ℕ → ℕ → Bool) (n w : ℕ) : Type 0 where
