@@ -3,4 +3,6 @@ pub mod Tree
 pub mod Depth
 pub mod Ranges
 pub mod Keys
+pub mod Marking
+pub mod Looks
 pub mod ByKeys

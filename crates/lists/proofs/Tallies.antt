@@ -1,15 +1,19 @@
 -- How many numbers below a bound a test holds of (`tally`). Assumes nothing.
 --   tally-on, tally-off           one number more, of which it holds or doesn't
---   tally-le, tally-mono          at most the bound; it never falls
---   tally-cong                    tests that agree below the bound
+--   tally-step                    one number more leaves it or raises it by one
+--   tally-le                      it is at most the bound
+--   tally-mono, tally-rising      it never falls
+--   tally-cong, tally-differ      tests that agree below the bound, and that agree but at one number
 --   within-in                     a range that has such a number
 --   within-rise, within-level     it raises the tally; one without leaves it
 --   level-within, rise-within     and so the tallies before its two ends tell whether it has one
 use Prim.Native.Nat.{ℕ, zero, suc, _+_, _-_, _<_, _≤_}
 use mathlib.Core.Path.{_≡_, refl, _∙_}
+use mathlib.Core.Logic.{_≢_}
 use mathlib.Core.Bool.{Bool, true, false}
 use native.Mathlib.Nat.{add-zero, add-suc}
 use native.Mathlib.Omega.{arith}
+use native.Mathlib.Decide.{ℕ-discrete}
 use Rattle.lists.specs.Walks.{tally, within}
 use Rattle.lists.proofs.Bools.{clash, refuted, confirmed, Flag, on, off, flag}
 use Rattle.lists.proofs.Walks.{Witness, some-in, some-out}
@@ -23,7 +27,7 @@ module _ (f : ℕ → Bool) where
   unfolding tally
   tally-off k e = rw e (omega arith)
 
-  tally-step : (k : ℕ) → (tally k f ≤ tally (suc k) f) × (tally (suc k) f ≤ tally k f + 1)
+  pub tally-step : (k : ℕ) → (tally k f ≤ tally (suc k) f) × (tally (suc k) f ≤ tally k f + 1)
   tally-step k = go (flag (f k))
     where
       go : Flag (f k) → (tally k f ≤ tally (suc k) f) × (tally (suc k) f ≤ tally k f + 1)
@@ -39,7 +43,7 @@ module _ (f : ℕ → Bool) where
   tally-mono lo zero = rw add-zero (omega arith)
   tally-mono lo (suc k) = rw add-suc (omega (arith, tally-step (lo + k) .0, tally-mono lo k))
 
-  tally-rising : (lo hi : ℕ) → lo ≤ hi → tally lo f ≤ tally hi f
+  pub tally-rising : (lo hi : ℕ) → lo ≤ hi → tally lo f ≤ tally hi f
   tally-rising lo hi h = let e : lo + (hi - lo) ≡ hi = omega arith in rw e at (tally-mono lo (hi - lo))
 
   tally-level : (lo len : ℕ) → ((i : ℕ) → lo ≤ i → i < lo + len → f i ≡ false) → tally (lo + len) f ≡ tally lo f
@@ -78,3 +82,15 @@ pub tally-cong : (n : ℕ) (f g : ℕ → Bool) → ((k : ℕ) → k < n → f k
 unfolding tally
 tally-cong zero f g h = refl
 tally-cong (suc k) f g h = rw (tally-cong k f g (λ j p. h j (omega arith)), h k (omega arith))
+
+-- of two tests that agree but at one number, one holds there and the other doesn't
+pub tally-differ :
+    (f g : ℕ → Bool) (at : ℕ) → ((k : ℕ) → k ≢ at → f k ≡ g k) → f at ≡ true → g at ≡ false → (n : ℕ) → at < n →
+    tally n f ≡ tally n g + 1
+unfolding tally
+tally-differ f g at agree p q zero h = absurd (omega arith)
+tally-differ f g at agree p q (suc k) h = go (ℕ-discrete k at) (tally-differ f g at agree p q k)
+  where
+    go : Dec (k ≡ at) → (at < k → tally k f ≡ tally k g + 1) → tally (suc k) f ≡ tally (suc k) g + 1
+    go (yes e) rest = rw (e, p, q, tally-cong at f g (λ j u. agree j (omega arith))) (omega arith)
+    go (no d) rest = rw (agree k d) (omega (arith, rest (omega arith)))
