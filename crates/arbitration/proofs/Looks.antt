@@ -2,11 +2,13 @@
 --   highest-none, highest-some     in a range without a candidate the tree answers its start, in another a candidate
 --   look-one                       a range of one key
 --   pair-asked, pair-answers       a range of two is searched as a pair
---   pair-right, pair-left          a pair, and its count by the marks: `pair-rises`, `pair-fits`
+--   pair-right, pair-left          a pair, and its count by the marks, which `pair-order` keeps small
+--   Halved                         a range of at least two, cut in two
 --   only-right, first, second      what is asked of a look into a half: the right one alone; the left one, and then the right one
 --   skipped-left, skipped-right    a half without a candidate is skipped
 --   both-right, both-left          both halves are looked into
---   first-inside, second-inside    the halves' answers lie in the array
+--   left-falls, right-falls        the halves are shorter
+--   first-inside, second-inside    their answers lie in the array
 --   search-none, search-some       a row without a candidate, and what is asked of the look into another
 --   searched-by-keys               keys that are the sources' ranks: the highest source, and the ranges with a candidate
 use Prim.Native.Nat.{ℕ, zero, suc, _+_, _-_, _/_, _^_, _<_, _≤_}
@@ -14,6 +16,7 @@ use mathlib.Core.Path.{_≡_, refl, ap, _∙_}
 use mathlib.Core.List.{List}
 use mathlib.Core.Bool.{true, false}
 use native.Mathlib.Omega.{arith}
+use native.Mathlib.Numerals.{add-one}
 use native.Mathlib.Decide.{decLe}
 use lib.ListN.{getD}
 use lib.Dec.{ltb}
@@ -25,7 +28,7 @@ use Rattle.model.specs.Requests.{candidate}
 use Rattle.model.specs.Arbitration.{rank, highest, candidateAt, rangesWith}
 use Rattle.lists.proofs.Bools.{clash, refuted, Flag, on, off, flag}
 use Rattle.lists.proofs.Walks.{Witness, some-out}
-use Rattle.lists.proofs.Tallies.{within-in, within-rise, level-within, rise-within}
+use Rattle.lists.proofs.Tallies.{tally-step, within-in, within-rise, level-within, rise-within}
 use Rattle.lists.proofs.Ranges.{occupied-single, occupied-pair, occupied-node, occupied-none, occupied-size, occupied-cong}
 use Rattle.lists.proofs.Winner.{FirstIn, none-above}
 use Rattle.arbitration.specs.Keys.{keyAbove, HighestKey, RanksOf}
@@ -68,12 +71,15 @@ module _ (ks : List ℕ) (lo len : ℕ) where
 -- ---- one range
 
 module _ {ks ms : List ℕ} {lo len looked : ℕ} (p : Lookable ks ms lo len looked) where
-  -- a mark is the number of candidates before it
-  mark-is : (i : ℕ) → i ≤ lo + len → getD ms i 0 ≡ tally i (ranked ks)
-  mark-is = p .marked .before
-
-  rises : tally lo (ranked ks) < tally (lo + len) (ranked ks)
-  rises = within-rise (ranked ks) lo len (p .held)
+  -- a range with a candidate raises the marks
+  marks-rise : getD ms lo 0 < getD ms (lo + len) 0
+  marks-rise =
+      omega (
+        arith,
+        within-rise (ranked ks) lo len (p .held),
+        p .marked .before lo (omega arith),
+        p .marked .before (lo + len) (omega arith),
+      )
 
   not-empty : 1 ≤ len
   not-empty = go len refl
@@ -81,10 +87,10 @@ module _ {ks ms : List ℕ} {lo len looked : ℕ} (p : Lookable ks ms lo len loo
       go : (k : ℕ) → len ≡ k → 1 ≤ len
       go zero e =
           let same : lo + len ≡ lo = omega arith in
-          absurd (omega (arith, rises, ap (λ (i : ℕ). tally i (ranked ks)) same))
+          absurd (omega (arith, marks-rise, ap (λ (i : ℕ). getD ms i 0) same))
       go (suc k) e = omega arith
 
-  pub one-fits : looked + 1 < 2 ^ 16
+  pub one-fits : looked + 2 ≤ 2 ^ 16
   one-fits = omega (arith, not-empty, p .room)
 
   pub two-at-least : (len ≡ 1 → ⊥) → 2 ≤ len
@@ -101,124 +107,138 @@ module _ {ks ms : List ℕ} {lo len looked : ℕ} (p : Lookable ks ms lo len loo
   pub pair-asked : len ≡ 2 → Lookable ks ms lo 2 looked
   pair-asked e = rw e at p
 
-  -- ---- two halves
+-- ---- two halves
 
-  module _ (h : 2 ≤ len) where
-    abbrev mid : ℕ
-    mid = lo + leftHalf len
+-- a range of at least two, with a keys in its left half
+pub record Halved (ks ms : List ℕ) (lo len looked a : ℕ) : Type 0 where
+  pub asked : Lookable ks ms lo len looked
+  pub longer : 2 ≤ len
+  pub cut : a ≡ leftHalf len
 
-    -- the marks at the left half's ends, and at the right half's
-    left-marks : (getD ms lo 0 ≡ tally lo (ranked ks)) × (getD ms mid 0 ≡ tally mid (ranked ks))
-    left-marks = (mark-is lo (omega arith), mark-is mid (omega arith))
+module _ {ks ms : List ℕ} {lo len looked a : ℕ} (p : Halved ks ms lo len looked a) where
+  abbrev mid : ℕ
+  mid = lo + a
 
-    right-marks : (getD ms mid 0 ≡ tally mid (ranked ks)) × (getD ms (lo + len) 0 ≡ tally (mid + len / 2) (ranked ks))
-    right-marks =
-        let end : lo + len ≡ mid + len / 2 = omega arith in
-        (mark-is mid (omega arith), mark-is (lo + len) (omega arith) ∙ ap (λ (i : ℕ). tally i (ranked ks)) end)
+  abbrev rest : ℕ
+  rest = len - a
 
-    half-asked :
-        (from size count : ℕ) → from + size ≤ lo + len → within (ranked ks) (from, size) ≡ true → count + (size + size) ≤ 2 ^ 16 →
-        Lookable ks ms from size count
-    half-asked from size count g held room =
-        record { inside = omega (arith, p .inside); marked = marks-fewer (p .marked) g; held = held; room = room }
+  -- both halves are shorter
+  pub left-falls : {t : ℕ} → len ≡ t → a < t
+  left-falls e = omega arith
 
-    pub only-right : getD ms lo 0 ≡ getD ms mid 0 → Lookable ks ms mid (len / 2) (looked + 1)
-    only-right e =
-        half-asked mid (len / 2) (looked + 1) (omega arith)
-        (rise-within (ranked ks) mid (len / 2) (λ u. omega (arith, rises, mark-is (lo + len) (omega arith), left-marks, right-marks)))
-        (omega (arith, p .room))
+  pub right-falls : {t : ℕ} → len ≡ t → rest < t
+  right-falls e = omega arith
 
-    pub first : (getD ms lo 0 ≡ getD ms mid 0 → ⊥) → Lookable ks ms lo (leftHalf len) (looked + 1)
-    first d =
-        half-asked lo (leftHalf len) (looked + 1) (omega arith)
-        (rise-within (ranked ks) lo (leftHalf len) (λ u. d (omega (arith, left-marks)))) (omega (arith, p .room))
+  -- the marks at the left half's ends, and at the right half's
+  left-marks : (getD ms lo 0 ≡ tally lo (ranked ks)) × (getD ms mid 0 ≡ tally mid (ranked ks))
+  left-marks = (p .asked .marked .before lo (omega arith), p .asked .marked .before mid (omega arith))
 
-    pub second :
-        {x middle : ℕ} → LookedInto ks lo (leftHalf len) x (looked + 1) middle → (getD ms mid 0 ≡ getD ms (lo + len) 0 → ⊥) →
-        Lookable ks ms mid (len / 2) middle
-    second {x} {middle} r d =
-        half-asked mid (len / 2) middle (omega arith)
-        (rise-within (ranked ks) mid (len / 2) (λ u. d (omega (arith, right-marks))))
-        (omega (arith, p .room, r .counted, occupied-size (ranked ks) lo (leftHalf len) (omega arith)))
+  right-marks : (getD ms mid 0 ≡ tally mid (ranked ks)) × (getD ms (lo + len) 0 ≡ tally (mid + rest) (ranked ks))
+  right-marks =
+      let end : lo + len ≡ mid + rest = omega arith in
+      (left-marks .1, p .asked .marked .before (lo + len) (omega arith) ∙ ap (λ (i : ℕ). tally i (ranked ks)) end)
 
-    -- the halves' answers lie in the array
-    pub first-inside : {x before after : ℕ} → LookedInto ks lo (leftHalf len) x before after → x < maxSources
-    first-inside {x} r = omega (arith, p .inside, highest-inside ks lo (leftHalf len) x (omega arith) (r .highest))
+  half-asked :
+      (from size count : ℕ) → from + size ≤ lo + len → within (ranked ks) (from, size) ≡ true → count + (size + size) ≤ 2 ^ 16 →
+      Lookable ks ms from size count
+  half-asked from size count g held room =
+      record { inside = omega arith; marked = marks-fewer (p .asked .marked) g; held = held; room = room }
 
-    pub second-inside : {y before after : ℕ} → LookedInto ks mid (len / 2) y before after → y < maxSources
-    second-inside {y} r = omega (arith, p .inside, highest-inside ks mid (len / 2) y (omega arith) (r .highest))
+  pub only-right : getD ms lo 0 ≡ getD ms mid 0 → Lookable ks ms mid rest (looked + 1)
+  only-right e =
+      let rises : getD ms lo 0 < getD ms (lo + len) 0 = marks-rise (p .asked) in
+      half-asked mid rest (looked + 1) (omega arith) (rise-within (ranked ks) mid rest (λ u. omega (arith, right-marks))) (omega arith)
 
-    node-count : occupied (ranked ks) lo len ≡ 1 + (occupied (ranked ks) lo (leftHalf len) + occupied (ranked ks) mid (len / 2))
-    node-count = occupied-node (ranked ks) lo len h (p .held)
+  pub first : (getD ms lo 0 ≡ getD ms mid 0 → ⊥) → Lookable ks ms lo a (looked + 1)
+  first d = half-asked lo a (looked + 1) (omega arith) (rise-within (ranked ks) lo a (λ u. d (omega (arith, left-marks)))) (omega arith)
 
-    halves : {x y : ℕ} → HighestKey ks lo (leftHalf len) x → HighestKey ks mid (len / 2) y → Beside ks lo len x y
-    halves {x} {y} f g = beside ks lo (leftHalf len) (len / 2) len x y (omega arith) (omega arith) (omega arith) f g
+  pub second :
+      {x middle : ℕ} → LookedInto ks lo a x (looked + 1) middle → (getD ms mid 0 ≡ getD ms (lo + len) 0 → ⊥) →
+      Lookable ks ms mid rest middle
+  second {x} {middle} r d =
+      half-asked mid rest middle (omega arith) (rise-within (ranked ks) mid rest (λ u. d (omega (arith, right-marks))))
+      (omega (arith, r .counted, occupied-size (ranked ks) lo a (omega arith)))
 
-    pub skipped-left :
-        {r after : ℕ} → getD ms lo 0 ≡ getD ms mid 0 → LookedInto ks mid (len / 2) r (looked + 1) after →
-        LookedInto ks lo len r looked after
-    skipped-left {r} {after} e found =
-        let none : within (ranked ks) (lo, leftHalf len) ≡ false = level-within (ranked ks) lo (leftHalf len) (omega (arith, left-marks)) in
-        let zero-there : getD ks lo 0 ≡ 0 = key-none ks lo (leftHalf len) none lo (omega arith) (omega arith) in
-        let above : 0 < getD ks r 0 = highest-some ks mid (len / 2) (only-right e .held) r (found .highest) in
-        record {
-          highest = halves (highest-none ks lo (leftHalf len) none) (found .highest) .right (omega arith);
-          counted = omega (arith, found .counted, node-count, occupied-none (ranked ks) lo (leftHalf len) none);
-        }
+  -- the halves' answers lie in the array
+  pub first-inside : {x before after : ℕ} → LookedInto ks lo a x before after → x < maxSources
+  first-inside {x} r = omega (arith, highest-inside ks lo a x (omega arith) (r .highest))
 
-    pub skipped-right :
-        {r after : ℕ} → getD ms mid 0 ≡ getD ms (lo + len) 0 → LookedInto ks lo (leftHalf len) r (looked + 1) after →
-        LookedInto ks lo len r looked after
-    skipped-right {r} {after} e found =
-        let none : within (ranked ks) (mid, len / 2) ≡ false = level-within (ranked ks) mid (len / 2) (omega (arith, right-marks)) in
-        let zero-there : getD ks mid 0 ≡ 0 = key-none ks mid (len / 2) none mid (omega arith) (omega arith) in
-        record {
-          highest = halves (found .highest) (highest-none ks mid (len / 2) none) .left (omega arith);
-          counted = omega (arith, found .counted, node-count, occupied-none (ranked ks) mid (len / 2) none);
-        }
+  pub second-inside : {y before after : ℕ} → LookedInto ks mid rest y before after → y < maxSources
+  second-inside {y} r = omega (arith, highest-inside ks mid rest y (omega arith) (r .highest))
 
-    module _ {x y middle after : ℕ} (left : LookedInto ks lo (leftHalf len) x (looked + 1) middle)
-        (right : LookedInto ks mid (len / 2) y middle after) where
-      both-counted : after ≡ looked + occupied (ranked ks) lo len
-      both-counted = omega (arith, left .counted, right .counted, node-count)
+  node-count : occupied (ranked ks) lo len ≡ 1 + (occupied (ranked ks) lo a + occupied (ranked ks) mid rest)
+  node-count =
+      let right : rest ≡ len / 2 = omega arith in
+      rw (right, p .cut) (occupied-node (ranked ks) lo len (p .longer) (p .asked .held))
 
-      pub both-right : getD ks x 0 < getD ks y 0 → LookedInto ks lo len y looked after
-      both-right u = record { highest = halves (left .highest) (right .highest) .right u; counted = both-counted }
+  halves : {x y : ℕ} → HighestKey ks lo a x → HighestKey ks mid rest y → Beside ks lo len x y
+  halves {x} {y} f g = beside ks lo a rest len x y (omega arith) (omega arith) (omega arith) f g
 
-      pub both-left : getD ks y 0 ≤ getD ks x 0 → LookedInto ks lo len x looked after
-      both-left u = record { highest = halves (left .highest) (right .highest) .left u; counted = both-counted }
+  pub skipped-left :
+      {r after : ℕ} → getD ms lo 0 ≡ getD ms mid 0 → LookedInto ks mid rest r (looked + 1) after → LookedInto ks lo len r looked after
+  skipped-left {r} {after} e found =
+      let none : within (ranked ks) (lo, a) ≡ false = level-within (ranked ks) lo a (omega (arith, left-marks)) in
+      let zero-there : getD ks lo 0 ≡ 0 = key-none ks lo a none lo (omega arith) (omega arith) in
+      let above : 0 < getD ks r 0 = highest-some ks mid rest (only-right e .held) r (found .highest) in
+      record {
+        highest = halves (highest-none ks lo a none) (found .highest) .right (omega arith);
+        counted = omega (arith, found .counted, node-count, occupied-none (ranked ks) lo a none);
+      }
+
+  pub skipped-right :
+      {r after : ℕ} → getD ms mid 0 ≡ getD ms (lo + len) 0 → LookedInto ks lo a r (looked + 1) after → LookedInto ks lo len r looked after
+  skipped-right {r} {after} e found =
+      let none : within (ranked ks) (mid, rest) ≡ false = level-within (ranked ks) mid rest (omega (arith, right-marks)) in
+      let zero-there : getD ks mid 0 ≡ 0 = key-none ks mid rest none mid (omega arith) (omega arith) in
+      record {
+        highest = halves (found .highest) (highest-none ks mid rest none) .left (omega arith);
+        counted = omega (arith, found .counted, node-count, occupied-none (ranked ks) mid rest none);
+      }
+
+  module _ {x y middle after : ℕ} (f : LookedInto ks lo a x (looked + 1) middle) (g : LookedInto ks mid rest y middle after) where
+    both-counted : after ≡ looked + occupied (ranked ks) lo len
+    both-counted = omega (arith, f .counted, g .counted, node-count)
+
+    pub both-right : getD ks x 0 < getD ks y 0 → LookedInto ks lo len y looked after
+    both-right u = record { highest = halves (f .highest) (g .highest) .right u; counted = both-counted }
+
+    pub both-left : getD ks y 0 ≤ getD ks x 0 → LookedInto ks lo len x looked after
+    both-left u = record { highest = halves (f .highest) (g .highest) .left u; counted = both-counted }
 
 -- ---- two keys
 
 module _ {ks ms : List ℕ} {lo looked : ℕ} (p : Lookable ks ms lo 2 looked) where
+  -- the marks rise by at most one at each key
+  pub pair-order :
+      (getD ms lo 0 ≤ getD ms (lo + 1) 0) × (getD ms (lo + 1) 0 ≤ getD ms (lo + 2) 0) × (getD ms (lo + 2) 0 ≤ getD ms lo 0 + 2)
+  pair-order =
+      let end : tally (suc (suc lo)) (ranked ks) ≡ tally (lo + 2) (ranked ks) = ap (λ (i : ℕ). tally i (ranked ks)) (omega arith) in
+      let mark : (i : ℕ) → i ≤ lo + 2 → getD ms i 0 ≡ tally i (ranked ks) = p .marked .before in
+      rw (mark lo (omega arith), mark (lo + 1) (omega arith), mark (lo + 2) (omega arith), add-one lo)
+      (omega (arith, tally-step (ranked ks) lo, tally-step (ranked ks) (suc lo)))
+
   -- the pair itself and each candidate of it, told by the marks before it and behind it
-  abbrev pairCount : ℕ
-  pairCount = getD ms (lo + 2) 0 - getD ms lo 0 + 1
-
-  pair-marks : (occupied (ranked ks) lo 2 + getD ms lo 0 ≡ getD ms (lo + 2) 0 + 1) × (getD ms lo 0 < getD ms (lo + 2) 0)
-  pair-marks =
-      rw (p .marked .before lo (omega arith), p .marked .before (lo + 2) (omega arith))
-      (occupied-pair (ranked ks) lo (p .held), within-rise (ranked ks) lo 2 (p .held))
-
-  pub pair-rises : getD ms lo 0 ≤ getD ms (lo + 2) 0
-  pair-rises = omega (arith, pair-marks)
-
-  pub pair-fits : looked + pairCount < 2 ^ 16
-  pair-fits = omega (arith, pair-marks, occupied-size (ranked ks) lo 2 (omega arith), p .room)
-
-  pair-counted : looked + pairCount ≡ looked + occupied (ranked ks) lo 2
-  pair-counted = omega (arith, pair-marks)
+  pair-counted : {after : ℕ} → after ≡ looked + (getD ms (lo + 2) 0 - getD ms lo 0 + 1) → after ≡ looked + occupied (ranked ks) lo 2
+  pair-counted e =
+      omega (
+        arith,
+        occupied-pair (ranked ks) lo (p .held),
+        within-rise (ranked ks) lo 2 (p .held),
+        p .marked .before lo (omega arith),
+        p .marked .before (lo + 2) (omega arith),
+      )
 
   pair-beside : Beside ks lo 2 lo (lo + 1)
   pair-beside =
       beside ks lo 1 1 2 lo (lo + 1) (omega arith) (omega arith) (omega arith) (at-most-one ks lo 1 (omega arith))
       (at-most-one ks (lo + 1) 1 (omega arith))
 
-  pub pair-right : getD ks lo 0 < getD ks (lo + 1) 0 → LookedInto ks lo 2 (lo + 1) looked (looked + pairCount)
-  pair-right u = record { highest = pair-beside .right u; counted = pair-counted }
+  module _ {after : ℕ} (e : after ≡ looked + (getD ms (lo + 2) 0 - getD ms lo 0 + 1)) where
+    pub pair-right : getD ks lo 0 < getD ks (lo + 1) 0 → LookedInto ks lo 2 (lo + 1) looked after
+    pair-right u = record { highest = pair-beside .right u; counted = pair-counted e }
 
-  pub pair-left : getD ks (lo + 1) 0 ≤ getD ks lo 0 → LookedInto ks lo 2 lo looked (looked + pairCount)
-  pair-left u = record { highest = pair-beside .left u; counted = pair-counted }
+    pub pair-left : getD ks (lo + 1) 0 ≤ getD ks lo 0 → LookedInto ks lo 2 lo looked after
+    pair-left u = record { highest = pair-beside .left u; counted = pair-counted e }
 
 pub pair-answers :
     {ks : List ℕ} {lo len r before after : ℕ} → len ≡ 2 → LookedInto ks lo 2 r before after → LookedInto ks lo len r before after

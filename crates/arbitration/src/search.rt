@@ -40,16 +40,17 @@ fn look(
     if len == 1 {
         return lo;
     }
-    let half = len - len / 2;
+    let half = (len + 1) / 2;
+    let rest = len - half;
     let middle = lo + half;
     if marks[lo] == marks[middle] {
-        return look(keys, marks, middle, len / 2, looked);
+        return look(keys, marks, middle, rest, looked);
     }
     let left = look(keys, marks, lo, half, looked);
     if marks[middle] == marks[lo + len] {
         return left;
     }
-    let right = look(keys, marks, middle, len / 2, looked);
+    let right = look(keys, marks, middle, rest, looked);
     if keys[left] < keys[right] {
         right
     } else {

@@ -44,8 +44,8 @@ loop-again : tie.Need-loop-again Inv-loop μ-loop
 loop-again c =
     let inv = c .before .before .before .loop .inv in
     ⊎-elim
-    (λ w. rw (w .1) (marking-on inv (omega arith) (w .0 .taken)))
-    (λ w. rw (w .1) (marking-off inv (omega arith) (w .0 .left)))
+    (λ w. rw (w .1) (marking-on inv (omega arith) (omega (arith, w .0 .taken))))
+    (λ w. rw (w .1) (marking-off inv (omega arith) (omega (arith, w .0 .left))))
     (c .if1 .came)
 
 returns : tie.Need-returns Inv-loop μ-loop

@@ -1,7 +1,7 @@
 -- `arbitration::search::pair` meets its contract: the marks before the pair and behind it differ by its candidates, and the right key is
 -- kept only if it is above. Assumes nothing.
 use native.Mathlib.Omega.{arith}
-use Rattle.arbitration.proofs.Looks.{pair-rises, pair-fits, pair-right, pair-left}
+use Rattle.arbitration.proofs.Looks.{pair-order, pair-right, pair-left}
 use Rattle.arbitration.proofs.search.pair.Statement.{statement}
 use Rattle.arbitration.proofs.search.pair.Tie as tie
 
@@ -21,13 +21,13 @@ element-copy-out-looked-2 : tie.Need-element-copy-out-looked-2
 element-copy-out-looked-2 c = omega arith
 
 sub-looked : tie.Need-sub-looked
-sub-looked c = pair-rises (c .before .before .pre)
+sub-looked c = omega (arith, pair-order (c .before .before .pre))
 
 add-looked-2 : tie.Need-add-looked-2
-add-looked-2 c = omega (arith, pair-fits (c .before .before .pre))
+add-looked-2 c = omega (arith, pair-order (c .before .before .pre))
 
 add-looked-3 : tie.Need-add-looked-3
-add-looked-3 c = omega (arith, pair-fits (c .before .before .before .pre))
+add-looked-3 c = omega (arith, pair-order (c .before .before .before .pre))
 
 mul-if1 : tie.Need-mul-if1
 mul-if1 c = omega arith
@@ -48,10 +48,10 @@ add-result : tie.Need-add-result
 add-result c = omega arith
 
 returns : tie.Need-returns
-returns c = pair-right (c .before .before .before .before .before .before .pre) (c .if1 .taken)
+returns c = pair-right (c .before .before .before .before .before .before .pre) (omega arith) (c .if1 .taken)
 
 returns-2 : tie.Need-returns-2
-returns-2 c = pair-left (c .before .before .before .before .before .before .pre) (c .if1 .left)
+returns-2 c = pair-left (c .before .before .before .before .before .before .pre) (omega arith) (c .if1 .left)
 
 pub pair-spec : {M : Type 1} → statement M
 pair-spec =
