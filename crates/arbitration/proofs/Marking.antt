@@ -2,14 +2,14 @@
 --   marks-fewer                         the marks of a longer row
 --   Marking, marking-none, -on, -off    marks while they are made: of no key, and of the next one, a candidate's or not
 --   Moving, moving-none, -more, -end    marks while those behind an index are changed: none yet, the next one, all
---   lowerable, raisable                 the marks of a row of keys can be lowered behind a candidate, and raised
---   marks-gone, marks-back              a candidate's key made 0, and the other way round: lowered, raised marks are the marks again
---   marks-kept                          a key that was 0 is 0 again
+--   counts                              how many candidates a key counts for
+--   movable, marks-moved                a key changes: the marks behind it can follow, and then they are the marks again
+--   unmoved                             where it counts for as many as before, they are as they stand
 use Prim.Native.Nat.{ℕ, suc, _+_, _-_, _<_, _≤_}
-use mathlib.Core.Path.{_≡_, refl, sym, ap, _∙_}
+use mathlib.Core.Path.{_≡_, refl, sym, _∙_}
 use mathlib.Core.Logic.{_≢_}
 use mathlib.Core.List.{List}
-use mathlib.Core.Bool.{true, false}
+use mathlib.Core.Bool.{cond}
 use lib.ListN.{length, getD, set, length-set}
 use lib.Seq.{getD-set-same, getD-set-other}
 use lib.Dec.{ltb}
@@ -19,9 +19,9 @@ use native.Mathlib.Decide.{ℕ-discrete, decLe}
 use borrow.Author.Tests.{lt-ltb, le-ltb}
 use Rattle.lists.specs.Walks.{tally}
 use Rattle.model.specs.Records.{maxSources}
-use Rattle.lists.proofs.Writes.{read-kept}
-use Rattle.lists.proofs.Tallies.{tally-on, tally-off, tally-le, tally-cong, tally-differ, tally-rising}
-use Rattle.arbitration.specs.Marks.{ranked, marksLength, MarksOf, Movable, Moved, Lowered, Raised, Lowerable, Raisable}
+use Rattle.lists.proofs.Bools.{Flag, on, off, flag}
+use Rattle.lists.proofs.Tallies.{one-le, tally-on, tally-off, tally-le, tally-cong, tally-differ, tally-rising}
+use Rattle.arbitration.specs.Marks.{ranked, marksLength, MarksOf, Movable, Moved}
 
 -- ---- marks while they are made
 
@@ -71,13 +71,13 @@ module _ {ks ms : List ℕ} {before i : ℕ} (r : Marking ks ms before i) (h : i
 -- ---- marks while those behind an index are changed
 
 -- those before i have changed
-pub record Moving (R : ℕ → ℕ → Type 0) (at n : ℕ) (ms ms′ : List ℕ) (i : ℕ) : Type 0 where
+pub record Moving (at n was is : ℕ) (ms ms′ : List ℕ) (i : ℕ) : Type 0 where
   pub started : at < i
   pub stops : i ≤ n + 1
-  pub moved : Moved R at (i - 1) ms ms′
+  pub moved : Moved at (i - 1) was is ms ms′
 
-module _ {P : ℕ → Type 0} {R : ℕ → ℕ → Type 0} {at n : ℕ} {ms : List ℕ} (can : Movable P at n ms) where
-  pub moving-none : Moving R at n ms ms (at + 1)
+module _ {at n was is : ℕ} {ms : List ℕ} (can : Movable at n was is ms) where
+  pub moving-none : Moving at n was is ms ms (at + 1)
   moving-none =
       record {
         started = omega arith;
@@ -85,12 +85,12 @@ module _ {P : ℕ → Type 0} {R : ℕ → ℕ → Type 0} {at n : ℕ} {ms : Li
         moved = record { whole = can .whole; before = λ i p. refl; behind = λ i p q. absurd (omega arith); past = λ i p. refl };
       }
 
-  module _ {ms′ : List ℕ} {i : ℕ} (r : Moving R at n ms ms′ i) where
-    -- the mark that is to change next is as it was, and can be changed
-    pub moving-next : i ≤ n → (getD ms′ i 0 ≡ getD ms i 0) × P (getD ms i 0)
-    moving-next h = (r .moved .past i (omega (arith, r .started)), can .room i (r .started) h)
+  module _ {ms′ : List ℕ} {i : ℕ} (r : Moving at n was is ms ms′ i) where
+    -- the mark that is to change next can be changed
+    pub moving-room : i ≤ n → (was ≤ getD ms′ i 0 + is) × (getD ms′ i 0 ≤ maxSources)
+    moving-room h = rw (r .moved .past i (omega (arith, r .started))) (can .room i (r .started) h)
 
-    pub moving-more : i ≤ n → (v : ℕ) → R (getD ms i 0) v → Moving R at n ms (set ms′ i v) (i + 1)
+    pub moving-more : i ≤ n → (v : ℕ) → v + was ≡ getD ms′ i 0 + is → Moving at n was is ms (set ms′ i v) (i + 1)
     moving-more h v e =
         record {
           started = omega (arith, r .started);
@@ -103,73 +103,56 @@ module _ {P : ℕ → Type 0} {R : ℕ → ℕ → Type 0} {at n : ℕ} {ms : Li
           };
         }
       where
-        go : (j : ℕ) → at < j → j ≤ i → Dec (j ≡ i) → R (getD ms j 0) (getD (set ms′ i v) j 0)
-        go j p q (yes d) = rw (d, getD-set-same ms′ i v 0 (omega (arith, r .moved .whole, can .n-le))) e
+        go : (j : ℕ) → at < j → j ≤ i → Dec (j ≡ i) → getD (set ms′ i v) j 0 + was ≡ getD ms j 0 + is
+        go j p q (yes d) =
+            rw (d, getD-set-same ms′ i v 0 (omega (arith, r .moved .whole, can .n-le)), ← r .moved .past i (omega (arith, r .started))) e
         go j p q (no d) = rw (getD-set-other ms′ i j v 0 d) (r .moved .behind j p (omega arith))
 
-    pub moving-end : n < i → Moved R at n ms ms′
+    pub moving-end : n < i → Moved at n was is ms ms′
     moving-end h = let e : i - 1 ≡ n = omega (arith, r .stops) in rw e at (r .moved)
 
 -- ---- marks kept right while keys change
 
-ranked-on : (ks : List ℕ) (i : ℕ) → 0 < getD ks i 0 → ranked ks i ≡ true
-ranked-on ks i h = lt-ltb 0 (getD ks i 0) h
+pub unmoved : {ms : List ℕ} (at n : ℕ) → length ms ≡ marksLength → Moved at n 0 0 ms ms
+unmoved at n e = record { whole = e; before = λ i h. refl; behind = λ i h g. refl; past = λ i h. refl }
 
-ranked-off : (ks : List ℕ) (i : ℕ) → getD ks i 0 ≡ 0 → ranked ks i ≡ false
-ranked-off ks i e = le-ltb 0 (getD ks i 0) (omega arith)
+-- how many candidates a key counts for
+abbrev pub counts : ℕ → ℕ
+counts k = cond (ltb 0 k) 1 0
 
-module _ {ks ms : List ℕ} {n at : ℕ} (m : MarksOf ks n ms) (h : at < n) (n-le : n ≤ maxSources) where
-  pub lowerable : 0 < getD ks at 0 → Lowerable at n ms
-  lowerable p =
+pub counts-some : (k : ℕ) → 0 < k → 1 ≡ counts k
+counts-some k h = rw (lt-ltb 0 k h)
+
+module _ {ks ms : List ℕ} {n at : ℕ} (m : MarksOf ks n ms) where
+  pub movable : at < n → n ≤ maxSources → (v was is : ℕ) → was ≡ counts (getD ks at 0) → is ≡ counts v → Movable at n was is ms
+  movable h n-le v was is e s =
       record {
         inside = h;
         n-le = n-le;
         whole = m .whole;
-        room = λ i g u. omega (arith, m .before i u, tally-on (ranked ks) at (ranked-on ks at p), tally-rising (ranked ks) (suc at) i g);
+        few = rw s (one-le (ltb 0 v));
+        room = λ i g u. rw (m .before i u) (omega (arith, raised i g, tally-le (ranked ks) i));
       }
-
-  pub raisable : Raisable at n ms
-  raisable =
-      record { inside = h; n-le = n-le; whole = m .whole; room = λ i g u. omega (arith, m .before i u, tally-le (ranked ks) i) }
-
-module _ {ks ms : List ℕ} {n at : ℕ} (m : MarksOf ks n ms) (in-row : at < length ks) (v : ℕ) where
-  ranked-other : (k : ℕ) → k ≢ at → ranked ks k ≡ ranked (set ks at v) k
-  ranked-other k d = rw (getD-set-other ks at k v 0 d)
-
-  at-written : getD (set ks at v) at 0 ≡ v
-  at-written = getD-set-same ks at v 0 in-row
-
-  -- the marks before the index are those of the keys after it too
-  marks-moved :
-      {R : ℕ → ℕ → Type 0} {ms′ : List ℕ} → Moved R at n ms ms′ →
-      ((i : ℕ) → at < i → (y : ℕ) → R (tally i (ranked ks)) y → y ≡ tally i (ranked (set ks at v))) → MarksOf (set ks at v) n ms′
-  marks-moved {R} {ms′} moved behind = record { whole = moved .whole; before = λ i g. go i g (decLe i at) }
     where
+      raised : (i : ℕ) → at < i → was ≤ tally i (ranked ks)
+      raised i g = rw e (go (flag (ranked ks at)))
+        where
+          go : Flag (ranked ks at) → counts (getD ks at 0) ≤ tally i (ranked ks)
+          go (on p) = rw p (omega (arith, tally-on (ranked ks) at p, tally-rising (ranked ks) (suc at) i g))
+          go (off p) = rw p (omega arith)
+
+  pub marks-moved :
+      at < length ks → (v was is : ℕ) → was ≡ counts (getD ks at 0) → is ≡ counts v → {ms′ : List ℕ} → Moved at n was is ms ms′ →
+      MarksOf (set ks at v) n ms′
+  marks-moved in-row v was is e s {ms′} moved = record { whole = moved .whole; before = λ i g. go i g (decLe i at) }
+    where
+      others : (k : ℕ) → k ≢ at → ranked (set ks at v) k ≡ ranked ks k
+      others k d = rw (getD-set-other ks at k v 0 d)
+
       go : (i : ℕ) → i ≤ n → Dec (i ≤ at) → getD ms′ i 0 ≡ tally i (ranked (set ks at v))
       go i g (yes u) =
-          moved .before i u ∙ m .before i g ∙ tally-cong i (ranked ks) (ranked (set ks at v)) (λ k q. ranked-other k (omega arith))
+          moved .before i u ∙ m .before i g ∙ sym (tally-cong i (ranked (set ks at v)) (ranked ks) (λ k q. others k (omega arith)))
       go i g (no u) =
-          let after : R (tally i (ranked ks)) (getD ms′ i 0) = rw (m .before i g) at (moved .behind i (omega arith) g) in
-          behind i (omega arith) (getD ms′ i 0) after
-
-  pub marks-gone : {ms′ : List ℕ} → 0 < getD ks at 0 → v ≡ 0 → Lowered at n ms ms′ → MarksOf (set ks at v) n ms′
-  marks-gone p z moved =
-      let on : ranked ks at ≡ true = ranked-on ks at p in
-      let off : ranked (set ks at v) at ≡ false = ranked-off (set ks at v) at (at-written ∙ z) in
-      marks-moved moved
-      (λ i u y e. omega (arith, tally-differ (ranked ks) (ranked (set ks at v)) at ranked-other on off i u))
-
-  pub marks-back : {ms′ : List ℕ} → getD ks at 0 ≡ 0 → 0 < v → Raised at n ms ms′ → MarksOf (set ks at v) n ms′
-  marks-back z p moved =
-      let on : ranked (set ks at v) at ≡ true = ranked-on (set ks at v) at (omega (arith, at-written)) in
-      let off : ranked ks at ≡ false = ranked-off ks at z in
-      marks-moved moved
-      (λ i u y e. omega (arith, tally-differ (ranked (set ks at v)) (ranked ks) at (λ k d. sym (ranked-other k d)) on off i u))
-
-pub marks-kept : {ks ms : List ℕ} {n : ℕ} → MarksOf ks n ms → (at v : ℕ) → getD ks at 0 ≡ 0 → v ≡ 0 → MarksOf (set ks at v) n ms
-marks-kept {ks} {ms} {n} m at v z e =
-    record {
-      whole = m .whole;
-      before = λ i h. m .before i h ∙ tally-cong i (ranked ks) (ranked (set ks at v))
-          (λ k u. ap (ltb 0) (sym (read-kept (λ j x. x) ks at k v 0 (e ∙ sym z))));
-    }
+          let after : tally i (ranked (set ks at v)) + counts (getD ks at 0) ≡ tally i (ranked ks) + counts v =
+          rw (getD-set-same ks at v 0 in-row) at (tally-differ (ranked (set ks at v)) (ranked ks) at others i (omega arith)) in
+          omega (arith, moved .behind i (omega arith) g, m .before i g)

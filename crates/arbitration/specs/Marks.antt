@@ -2,8 +2,7 @@
 -- here needs to be believed.
 --   ranked ks i                 the key at i is a candidate's: 0 is no candidate's
 --   MarksOf ks n ms             ms holds for each index up to n how many candidates' keys stand before it
---   Movable P at n ms           marks of which those behind the index at, up to n, meet P; Lowerable: above 0, Raisable: few
---   Moved R at n ms ms′         those have changed by R, and no others have; Lowered, Raised: by one
+--   Movable, Moved              the marks behind the index at, up to n, can be changed from one candidate's count to another's, and are
 --   Lookable, LookedInto        what the search of a range that has a candidate asks and gives; looked, before and after are counts
 --   Searched ks n r             what the whole search answers
 use Prim.Native.Nat.{ℕ, _+_, _^_, _<_, _≤_}
@@ -30,29 +29,18 @@ pub record MarksOf (ks : List ℕ) (n : ℕ) (ms : List ℕ) : Type 0 where
   pub whole : length ms ≡ marksLength
   pub before : (i : ℕ) → i ≤ n → getD ms i 0 ≡ tally i (ranked ks)
 
-pub record Movable (P : ℕ → Type 0) (at n : ℕ) (ms : List ℕ) : Type 0 where
+pub record Movable (at n was is : ℕ) (ms : List ℕ) : Type 0 where
   pub inside : at < n
   pub n-le : n ≤ maxSources
   pub whole : length ms ≡ marksLength
-  pub room : (i : ℕ) → at < i → i ≤ n → P (getD ms i 0)
+  pub few : is ≤ 1
+  pub room : (i : ℕ) → at < i → i ≤ n → (was ≤ getD ms i 0 + is) × (getD ms i 0 ≤ maxSources)
 
-pub record Moved (R : ℕ → ℕ → Type 0) (at n : ℕ) (ms ms′ : List ℕ) : Type 0 where
+pub record Moved (at n was is : ℕ) (ms ms′ : List ℕ) : Type 0 where
   pub whole : length ms′ ≡ marksLength
   pub before : (i : ℕ) → i ≤ at → getD ms′ i 0 ≡ getD ms i 0
-  pub behind : (i : ℕ) → at < i → i ≤ n → R (getD ms i 0) (getD ms′ i 0)
+  pub behind : (i : ℕ) → at < i → i ≤ n → getD ms′ i 0 + was ≡ getD ms i 0 + is
   pub past : (i : ℕ) → n < i → getD ms′ i 0 ≡ getD ms i 0
-
-abbrev pub Lowerable : ℕ → ℕ → List ℕ → Type 0
-Lowerable = Movable (λ x. 1 ≤ x)
-
-abbrev pub Lowered : ℕ → ℕ → List ℕ → List ℕ → Type 0
-Lowered = Moved (λ x y. x ≡ y + 1)
-
-abbrev pub Raisable : ℕ → ℕ → List ℕ → Type 0
-Raisable = Movable (λ x. x ≤ maxSources)
-
-abbrev pub Raised : ℕ → ℕ → List ℕ → List ℕ → Type 0
-Raised = Moved (λ x y. y ≡ x + 1)
 
 -- ---- the search
 

@@ -4,7 +4,7 @@ ghost use Prim.Native.Nat.{_≤_};
 ghost use mathlib.Core.Path.{_≡_};
 ghost use lib.ListN.{length};
 ghost use Rattle.model.specs.Records.{maxSources};
-ghost use Rattle.arbitration.specs.Marks.{marksLength, MarksOf, Lowerable, Lowered, Raisable, Raised};
+ghost use Rattle.arbitration.specs.Marks.{marksLength, MarksOf, Movable, Moved};
 use model::SOURCES;
 
 // One mark before each key, and one behind the last.
@@ -27,26 +27,14 @@ pub fn marks_of(keys: &[u32; SOURCES], n: usize, marks: &mut [u16; MARKS])
     }
 }
 
-// The candidate at an index is gone: one fewer before each index behind it.
-pub fn mark_gone(marks: &mut [u16; MARKS], at: usize, n: usize)
-    requires { ⌜ Lowerable at n (now marks) ⌝ }
-    ensures { λ r. ⌜ Lowered at n (now (marks .entry)) (now (marks .exit)) ⌝ }
+// The key at an index has changed: it counted for `was` candidates, and counts for `is`, each 0 or 1. The marks behind it follow.
+pub fn remark(marks: &mut [u16; MARKS], at: usize, n: usize, was: u16, is: u16)
+    requires { ⌜ Movable at n was is (now marks) ⌝ }
+    ensures { λ r. ⌜ Moved at n was is (now (marks .entry)) (now (marks .exit)) ⌝ }
 {
     let mut i = at + 1;
     while i <= n {
-        marks[i] -= 1;
-        i += 1;
-    }
-}
-
-// A candidate is back at an index: one more before each index behind it.
-pub fn mark_back(marks: &mut [u16; MARKS], at: usize, n: usize)
-    requires { ⌜ Raisable at n (now marks) ⌝ }
-    ensures { λ r. ⌜ Raised at n (now (marks .entry)) (now (marks .exit)) ⌝ }
-{
-    let mut i = at + 1;
-    while i <= n {
-        marks[i] += 1;
+        marks[i] = marks[i] + is - was;
         i += 1;
     }
 }

@@ -11,7 +11,8 @@ pub struct Looked {
     pub ranges: u16,
 }
 
-// The same of a pair of which one is a candidate's: it is one range, and each candidate of it another.
+// The index of the first highest of the two keys from lo, of which one is a candidate's. A pair is one range, and each candidate of it
+// another: looked rises by that many.
 fn pair(keys: &[u32; SOURCES], marks: &[u16; MARKS], lo: usize, looked: &mut u16) -> usize
     requires { ⌜ Lookable (now keys) (now marks) lo 2 (now looked) ⌝ }
     ensures { λ r. ⌜ LookedInto (now (keys .entry)) lo 2 r (now (looked .entry)) (now (looked .exit)) ⌝ }

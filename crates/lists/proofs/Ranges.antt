@@ -20,7 +20,7 @@ use Rattle.lists.specs.Rows.{filter}
 use Rattle.lists.specs.Walks.{tally, leftHalf, Comparators, over, halved, longestPath, rangesOf, ranges, within, occupied}
 use Rattle.lists.proofs.Bools.{Flag, on, off, flag}
 use Rattle.lists.proofs.Walks.{some-agree}
-use Rattle.lists.proofs.Tallies.{tally-step, tally-mono, within-in, within-rise, within-level}
+use Rattle.lists.proofs.Tallies.{one-le, tally-step, tally-mono, within-in, within-rise, within-level}
 
 -- ---- the tree
 
@@ -132,17 +132,13 @@ module _ (f : ℕ → Bool) where
 
   -- ---- how large the count is
 
-  at-most-one : (t : Bool) → cond t 1 0 ≤ 1
-  at-most-one true = omega arith
-  at-most-one false = omega arith
-
   pub occupied-size : (lo len : ℕ) → 1 ≤ len → occupied f lo len < len + len
   occupied-size =
       by-halves (λ (lo len : ℕ). 1 ≤ len → occupied f lo len < len + len)
       (λ lo h. absurd (omega arith))
-      (λ lo h. omega (arith, occupied-one lo, at-most-one (within f (lo, 1))))
+      (λ lo h. omega (arith, occupied-one lo, one-le (within f (lo, 1))))
       (λ lo len h left right g.
-      omega (arith, occupied-halves lo len h, at-most-one (within f (lo, len)), left (omega arith), right (omega arith)))
+      omega (arith, occupied-halves lo len h, one-le (within f (lo, len)), left (omega arith), right (omega arith)))
 
   pub occupied-all : (lo len : ℕ) → 1 ≤ len → ((i : ℕ) → lo ≤ i → i < lo + len → f i ≡ true) → occupied f lo len + 1 ≡ len + len
   occupied-all =

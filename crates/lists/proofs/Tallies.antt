@@ -1,4 +1,5 @@
 -- How many numbers below a bound a test holds of (`tally`). Assumes nothing.
+--   one-le                        a test counts at most 1
 --   tally-on, tally-off           one number more, of which it holds or doesn't
 --   tally-step                    one number more leaves it or raises it by one
 --   tally-le                      it is at most the bound
@@ -10,13 +11,17 @@
 use Prim.Native.Nat.{ℕ, zero, suc, _+_, _-_, _<_, _≤_}
 use mathlib.Core.Path.{_≡_, refl, _∙_}
 use mathlib.Core.Logic.{_≢_}
-use mathlib.Core.Bool.{Bool, true, false}
+use mathlib.Core.Bool.{Bool, true, false, cond}
 use native.Mathlib.Nat.{add-zero, add-suc}
 use native.Mathlib.Omega.{arith}
 use native.Mathlib.Decide.{ℕ-discrete}
 use Rattle.lists.specs.Walks.{tally, within}
-use Rattle.lists.proofs.Bools.{clash, refuted, confirmed, Flag, on, off, flag}
+use Rattle.lists.proofs.Bools.{clash, refuted, confirmed}
 use Rattle.lists.proofs.Walks.{Witness, some-in, some-out}
+
+pub one-le : (t : Bool) → cond t 1 0 ≤ 1
+one-le true = omega arith
+one-le false = omega arith
 
 module _ (f : ℕ → Bool) where
   pub tally-on : (k : ℕ) → f k ≡ true → tally (suc k) f ≡ tally k f + 1
@@ -28,11 +33,8 @@ module _ (f : ℕ → Bool) where
   tally-off k e = rw e (omega arith)
 
   pub tally-step : (k : ℕ) → (tally k f ≤ tally (suc k) f) × (tally (suc k) f ≤ tally k f + 1)
-  tally-step k = go (flag (f k))
-    where
-      go : Flag (f k) → (tally k f ≤ tally (suc k) f) × (tally (suc k) f ≤ tally k f + 1)
-      go (on e) = omega (arith, tally-on k e)
-      go (off e) = omega (arith, tally-off k e)
+  unfolding tally
+  tally-step k = omega (arith, one-le (f k))
 
   pub tally-le : (n : ℕ) → tally n f ≤ n
   unfolding tally
@@ -83,14 +85,16 @@ unfolding tally
 tally-cong zero f g h = refl
 tally-cong (suc k) f g h = rw (tally-cong k f g (λ j p. h j (omega arith)), h k (omega arith))
 
--- of two tests that agree but at one number, one holds there and the other doesn't
+-- tests that agree but at one number
 pub tally-differ :
-    (f g : ℕ → Bool) (at : ℕ) → ((k : ℕ) → k ≢ at → f k ≡ g k) → f at ≡ true → g at ≡ false → (n : ℕ) → at < n →
-    tally n f ≡ tally n g + 1
+    (f g : ℕ → Bool) (at : ℕ) → ((k : ℕ) → k ≢ at → f k ≡ g k) → (n : ℕ) → at < n →
+    tally n f + cond (g at) 1 0 ≡ tally n g + cond (f at) 1 0
 unfolding tally
-tally-differ f g at agree p q zero h = absurd (omega arith)
-tally-differ f g at agree p q (suc k) h = go (ℕ-discrete k at) (tally-differ f g at agree p q k)
+tally-differ f g at agree zero h = absurd (omega arith)
+tally-differ f g at agree (suc k) h = go (ℕ-discrete k at) (tally-differ f g at agree k)
   where
-    go : Dec (k ≡ at) → (at < k → tally k f ≡ tally k g + 1) → tally (suc k) f ≡ tally (suc k) g + 1
-    go (yes e) rest = rw (e, p, q, tally-cong at f g (λ j u. agree j (omega arith))) (omega arith)
+    go :
+        Dec (k ≡ at) → (at < k → tally k f + cond (g at) 1 0 ≡ tally k g + cond (f at) 1 0) →
+        tally (suc k) f + cond (g at) 1 0 ≡ tally (suc k) g + cond (f at) 1 0
+    go (yes e) rest = rw (e, tally-cong at f g (λ j u. agree j (omega arith))) (omega arith)
     go (no d) rest = rw (agree k d) (omega (arith, rest (omega arith)))
