@@ -8,7 +8,6 @@ use mathlib.Core.List.{List}
 use mathlib.Core.Bool.{Bool, true, false, cond}
 use native.Mathlib.Omega.{arith}
 use lib.Dec.{ltb}
-use borrow.Author.Tests.{ltb-true}
 use Rattle.model.specs.declared.Source.{Source}
 use Rattle.model.specs.declared.Core.{Core}
 use Rattle.lists.specs.Rows.{FilledTo}
@@ -34,47 +33,33 @@ Inside lo len w = (lo ≤ w) × (w < lo + len)
 tree-inside : (above : ℕ → ℕ → Bool) (d lo len : ℕ) → 1 ≤ len → Inside lo len (tree above d lo len)
 unfolding tree
 tree-inside above zero lo len h = omega arith
-tree-inside above (suc d) lo len h = go (ltb 1 len) refl (tree-inside above d)
-  where
-    x : ℕ
-    x = tree above d lo (leftHalf len)
-
-    y : ℕ
-    y = tree above d (lo + leftHalf len) (len / 2)
-
-    go :
-        (t : Bool) → ltb 1 len ≡ t → ((lo′ len′ : ℕ) → 1 ≤ len′ → Inside lo′ len′ (tree above d lo′ len′)) →
-        Inside lo len (cond t (winner above x y) lo)
-    go true p rest =
-        let q : 1 < len = ltb-true 1 len p in
-        let u : Inside lo (leftHalf len) x = rest lo (leftHalf len) (omega arith) in
-        let v : Inside (lo + leftHalf len) (len / 2) y = rest (lo + leftHalf len) (len / 2) (omega arith) in
-        picked (Inside lo len) (above y x) x y (omega arith) (omega arith)
-    go false p rest = omega arith
+tree-inside above (suc d) lo zero h = absurd (omega arith)
+tree-inside above (suc d) lo (suc zero) h = omega arith
+tree-inside above (suc d) lo (suc (suc k)) h =
+    let len : ℕ = suc (suc k) in
+    let x : ℕ = tree above d lo (leftHalf len) in
+    let y : ℕ = tree above d (lo + leftHalf len) (len / 2) in
+    let u : Inside lo (leftHalf len) x = tree-inside above d lo (leftHalf len) (omega arith) in
+    let v : Inside (lo + leftHalf len) (len / 2) y = tree-inside above d (lo + leftHalf len) (len / 2) (omega arith) in
+    picked (Inside lo len) (above y x) x y (omega arith) (omega arith)
 
 tree-cong :
     (above above′ : ℕ → ℕ → Bool) (d lo len : ℕ) → ((i j : ℕ) → Inside lo len i → Inside lo len j → above i j ≡ above′ i j) →
     tree above d lo len ≡ tree above′ d lo len
 unfolding tree
 tree-cong above above′ zero lo len agree = refl
-tree-cong above above′ (suc d) lo len agree = go (ltb 1 len) refl (tree-cong above above′ d)
-  where
-    x : (ℕ → ℕ → Bool) → ℕ
-    x f = tree f d lo (leftHalf len)
-
-    y : (ℕ → ℕ → Bool) → ℕ
-    y f = tree f d (lo + leftHalf len) (len / 2)
-
-    go : (t : Bool) → ltb 1 len ≡ t → ((lo′ len′ : ℕ) → ((i j : ℕ) → Inside lo′ len′ i → Inside lo′ len′ j → above i j ≡ above′ i j) → tree above d lo′ len′ ≡ tree above′ d lo′ len′) → cond t (winner above (x above) (y above)) lo ≡ cond t (winner above′ (x above′) (y above′)) lo
-    go true p rest =
-        let q : 1 < len = ltb-true 1 len p in
-        let u : Inside lo (leftHalf len) (x above) = tree-inside above d lo (leftHalf len) (omega arith) in
-        let v : Inside (lo + leftHalf len) (len / 2) (y above) = tree-inside above d (lo + leftHalf len) (len / 2) (omega arith) in
-        winner-cong above above′ (x above) (x above′) (y above) (y above′)
-        (rest lo (leftHalf len) (λ i j h g. agree i j (omega arith) (omega arith)))
-        (rest (lo + leftHalf len) (len / 2) (λ i j h g. agree i j (omega arith) (omega arith)))
-        (agree (y above) (x above) (omega arith) (omega arith))
-    go false p rest = refl
+tree-cong above above′ (suc d) lo zero agree = refl
+tree-cong above above′ (suc d) lo (suc zero) agree = refl
+tree-cong above above′ (suc d) lo (suc (suc k)) agree =
+    let len : ℕ = suc (suc k) in
+    let x : (ℕ → ℕ → Bool) → ℕ = λ f. tree f d lo (leftHalf len) in
+    let y : (ℕ → ℕ → Bool) → ℕ = λ f. tree f d (lo + leftHalf len) (len / 2) in
+    let u : Inside lo (leftHalf len) (x above) = tree-inside above d lo (leftHalf len) (omega arith) in
+    let v : Inside (lo + leftHalf len) (len / 2) (y above) = tree-inside above d (lo + leftHalf len) (len / 2) (omega arith) in
+    winner-cong above above′ (x above) (x above′) (y above) (y above′)
+    (tree-cong above above′ d lo (leftHalf len) (λ i j h g. agree i j (omega arith) (omega arith)))
+    (tree-cong above above′ d (lo + leftHalf len) (len / 2) (λ i j h g. agree i j (omega arith) (omega arith)))
+    (agree (y above) (x above) (omega arith) (omega arith))
 
 walk-le : (above : ℕ → ℕ → Bool) (n : ℕ) → walk above n ≤ n
 unfolding walk

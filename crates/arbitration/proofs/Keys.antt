@@ -1,4 +1,5 @@
 -- Rows of numbers: the highest key of a range, and the least of a row. Assumes nothing.
+--   first-in, highest-key      the answer for a range that is not empty is its first highest (`FirstIn`), and nothing else is
 --   at-most-one, beside        `HighestKey` of a range of at most one, and of two ranges side by side
 --   highest-inside             it lies in the range
 --   LeastSoFar                 what a walk for the least knows before its next number
@@ -16,18 +17,17 @@ use Rattle.lists.proofs.Winner.{WeakOrder, by-key, FirstIn, first-unique, node-
 
 -- ---- the highest key of a range
 
-above-order : (ks : List ℕ) → WeakOrder (keyAbove ks)
+pub above-order : (ks : List ℕ) → WeakOrder (keyAbove ks)
 above-order ks = by-key (λ (i : ℕ). getD ks i 0)
 
 pub at-most-one : (ks : List ℕ) (lo len : ℕ) → len ≤ 1 → HighestKey ks lo len lo
 at-most-one ks lo len h d g = tree-of-one (keyAbove ks) d lo len h
 
--- the answer for a range that is not empty is its first highest, and nothing else is
-first-in : (ks : List ℕ) (lo len r : ℕ) → 1 ≤ len → HighestKey ks lo len r → FirstIn (keyAbove ks) lo len r
+pub first-in : (ks : List ℕ) (lo len r : ℕ) → 1 ≤ len → HighestKey ks lo len r → FirstIn (keyAbove ks) lo len r
 first-in ks lo len r h e =
     subst (FirstIn (keyAbove ks) lo len) (sym (e len (omega arith))) (tree-first (keyAbove ks) (above-order ks) len lo len h (omega arith))
 
-highest-key : (ks : List ℕ) (lo len r : ℕ) → FirstIn (keyAbove ks) lo len r → HighestKey ks lo len r
+pub highest-key : (ks : List ℕ) (lo len r : ℕ) → FirstIn (keyAbove ks) lo len r → HighestKey ks lo len r
 highest-key ks lo len r f d g =
     first-unique (keyAbove ks) lo len r (tree (keyAbove ks) d lo len) f
     (tree-first (keyAbove ks) (above-order ks) d lo len (omega (arith, f .from, f .inside)) g)

@@ -2,5 +2,8 @@
 pub mod Tree
 pub mod LeastCore
 pub mod Depth
+pub mod Ranges
 pub mod Keys
+pub mod Marking
+pub mod Looks
 pub mod ByKeys

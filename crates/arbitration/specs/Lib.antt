@@ -1,2 +1,3 @@
 -- Helpers of this crate's contracts. Nothing here needs to be believed.
 pub mod Keys
+pub mod Marks

@@ -2,6 +2,8 @@
 pub mod Depth
 pub mod Bools
 pub mod Walks
+pub mod Tallies
+pub mod Ranges
 pub mod Arrays
 pub mod Writes
 pub mod Filling

@@ -70,7 +70,9 @@ first-unique above lo len v w f g =
 pub tree-of-one : (above : ℕ → ℕ → Bool) (d lo len : ℕ) → len ≤ 1 → lo ≡ tree above d lo len
 unfolding tree
 tree-of-one above zero lo len h = refl
-tree-of-one above (suc d) lo len h = rw (le-ltb 1 len h)
+tree-of-one above (suc d) lo zero h = refl
+tree-of-one above (suc d) lo (suc zero) h = refl
+tree-of-one above (suc d) lo (suc (suc k)) h = absurd (omega arith)
 
 pub walk-of-one : (above : ℕ → ℕ → Bool) → 0 ≡ walk above 1
 unfolding walk
@@ -146,20 +148,13 @@ module _ (above : ℕ → ℕ → Bool) (order : WeakOrder above) where
   pub tree-first : (d lo len : ℕ) → 1 ≤ len → len ≤ d → FirstIn above lo len (tree above d lo len)
   unfolding tree
   tree-first zero lo len h g = absurd (omega arith)
-  tree-first (suc d) lo len h g = go (ltb 1 len) refl (tree-first d)
-    where
-      w : ℕ
-      w = winner above (tree above d lo (leftHalf len)) (tree above d (lo + leftHalf len) (len / 2))
-
-      go :
-          (t : Bool) → ltb 1 len ≡ t → ((lo′ len′ : ℕ) → 1 ≤ len′ → len′ ≤ d → FirstIn above lo′ len′ (tree above d lo′ len′)) →
-          FirstIn above lo len (cond t w lo)
-      go true p rest =
-          let q : 1 < len = ltb-true 1 len p in
-          node lo (leftHalf len) (lo + leftHalf len) (len / 2) len _ _ refl (omega arith)
-          (rest lo (leftHalf len) (omega arith) (omega arith))
-          (rest (lo + leftHalf len) (len / 2) (omega arith) (omega arith))
-      go false p rest = single lo len (omega (arith, ltb-false 1 len p))
+  tree-first (suc d) lo zero h g = absurd (omega arith)
+  tree-first (suc d) lo (suc zero) h g = single lo 1 refl
+  tree-first (suc d) lo (suc (suc k)) h g =
+      let len : ℕ = suc (suc k) in
+      node lo (leftHalf len) (lo + leftHalf len) (len / 2) len _ _ refl (omega arith)
+      (tree-first d lo (leftHalf len) (omega arith) (omega arith))
+      (tree-first d (lo + leftHalf len) (len / 2) (omega arith) (omega arith))
 
   pub walk-first : (n : ℕ) → 1 ≤ n → FirstIn above 0 n (walk above n)
   unfolding walk

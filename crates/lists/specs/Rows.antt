@@ -1,12 +1,13 @@
 -- Values laid in a row. Definitions only. Assumes nothing.
 --   row n f                the numbers f 0, .., f (n - 1); `gather` joins lists so, `tabulated` takes values of any type
 --   joined f l             the lists f x of each x of l, joined
+--   filter f l             the values of l that pass f, in their order
 --   write f at v           the function f with the value at one place replaced
 --   FilledTo f d l n ks    the first n numbers of ks are what f says of the first n elements of l
 use Prim.Native.Nat.{ℕ, zero, suc, _<_}
 use mathlib.Core.Path.{_≡_}
 use mathlib.Core.List.{List, [], _∷_, _++_}
-use mathlib.Core.Bool.{cond}
+use mathlib.Core.Bool.{Bool, cond}
 use lib.Dec.{eqb}
 use lib.ListN.{getD}
 
@@ -28,6 +29,10 @@ tabulated (suc k) f = tabulated k f ++ (f k ∷ [])
 unfoldable pub joined : {A : Type 0} → (A → List ℕ) → List A → List ℕ
 joined f [] = []
 joined f (x ∷ xs) = f x ++ joined f xs
+
+unfoldable pub filter : {A : Type 0} → (A → Bool) → List A → List A
+filter f [] = []
+filter f (x ∷ xs) = cond (f x) (x ∷ filter f xs) (filter f xs)
 
 -- f with the value at one place replaced
 abbrev pub write {ℓ} : {A : Type ℓ} → (ℕ → A) → ℕ → A → ℕ → A

@@ -4,6 +4,8 @@
 --   highest l n       the index of the first highest candidate of the first n sources, by the comparator tree;
 --                     it is a candidate unless there is none
 --   highestId l n     its id, 0 if there is none
+--   rangesWith l n    how many ranges of that tree have a candidate in them: those that the search looks into
+--   candidates l n    how many of the first n sources are candidates
 --   least l m         of the first m cores the one to be interrupted first: of least current priority, on a tie one whose box is
 --                     filled, then the lowest number
 use Prim.Native.Nat.{ℕ, suc, _+_, _*_}
@@ -14,7 +16,7 @@ use lib.Dec.{ltb}
 use Rattle.model.specs.declared.Source.{Source}
 use Rattle.model.specs.declared.Core.{Core}
 use Rattle.model.specs.Records.{noSource, noCore}
-use Rattle.lists.specs.Walks.{walk, tree}
+use Rattle.lists.specs.Walks.{tally, walk, tree, occupied}
 use Rattle.model.specs.Requests.{currentPriority, candidate}
 
 abbrev pub rank : Source → ℕ
@@ -33,6 +35,16 @@ highestByWalk l n = walk (higher l) n
 
 unfoldable pub highestId : List Source → ℕ → ℕ
 highestId l n = cond (candidate (getD l (highest l n) noSource)) (suc (highest l n)) 0
+
+abbrev pub candidateAt : List Source → ℕ → Bool
+candidateAt l i = candidate (getD l i noSource)
+
+-- Document 02, 3/14: "exactly those of the tree with a candidate in them".
+unfoldable pub rangesWith : List Source → ℕ → ℕ
+rangesWith l n = occupied (candidateAt l) 0 n
+
+unfoldable pub candidates : List Source → ℕ → ℕ
+candidates l n = tally n (candidateAt l)
 
 -- Where a core stands in arbitration: by its current priority, and on a tie a filled box goes first, since to put its request back
 -- disturbs no further core.

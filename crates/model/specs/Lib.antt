@@ -10,6 +10,7 @@
 --   Commands      effects, refusals, answers, making, and the run of a list of commands
 --   Ledger        the ledger kept from commands and their answers; collection, placement, sorting
 --   Statements    what is claimed of all this, as propositions; their proofs are in the crates above this one
+--   SearchStatements   what is claimed of the ranges that the search looks into
 --   Cases         the worked cases of document 01's table of runs
 --   StateCases    worked states: fresh, broken beside sound, and with dirty boxes
 --   LedgerCases   worked pages of the ledger, a collection, placements
@@ -23,6 +24,7 @@ pub mod Behaviours
 pub mod Commands
 pub mod Ledger
 pub mod Statements
+pub mod SearchStatements
 pub mod Cases
 pub mod StateCases
 pub mod LedgerCases
