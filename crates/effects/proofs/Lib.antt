@@ -5,5 +5,6 @@ pub mod SourceEffects
 pub mod CoreEffects
 pub mod Effects
 pub mod AtRest
+pub mod OneDelivery
 pub mod Kept
 pub mod Answers

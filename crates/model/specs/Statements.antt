@@ -27,7 +27,7 @@ use Rattle.model.specs.Records.{maxSources, maxCores, noSource, noCore, 
 use Rattle.model.specs.Priorities.{floorLog2, topPriority}
 use Rattle.model.specs.Requests.{currentPriority, candidate, claimed, Owner, Owns}
 use Rattle.model.specs.Arbitration.{higher, highest, highestByWalk, highestId, lower, least}
-use Rattle.model.specs.Settling.{next, settle, isRetraction, isDelivery, countOf, cyclesOf}
+use Rattle.model.specs.Settling.{deliver, interruptedBy, next, settle, isRetraction, isDelivery, countOf, cyclesOf}
 use Rattle.model.specs.Commands.{effect, malformed, badCore, badSource, badPriority, alreadyPending, nothingToClaim, notClaimed, refusal, afterRefusal, execute, make}
 use Rattle.model.specs.Ledger.{Ledger, opening, ledger, collection, Placement, given, inBoxes, requestPriority, currentPriorities, placedBy, filledBoxes, entriesBy}
 use Rattle.lists.specs.Rows.{row}
@@ -102,6 +102,18 @@ NothingCutShort =
 -- On every state, sound or not.
 abbrev pub CyclesBounded : Type 0
 CyclesBounded = (s : Controller) (c : Command) → (execute s c) .cycles ≤ 2 * s .m
+
+-- The answer to a command on source i + 1 whose effect is e, if its request is delivered at most, and to the least core.
+abbrev pub deliveredOnce : Controller → ℕ → Answer
+deliveredOnce e i =
+    cond
+    (interruptedBy (coreAt e (least (e .cores) (e .m))) (sourceAt e i)) (answer (deliver e i (least (e .cores) (e .m))) 0 0 1) (answer e 0 0 0)
+
+-- A command on a source makes one delivery, of that source's request, exactly if it is above the least core; else the state is at rest.
+abbrev pub OneDelivery : Type 0
+OneDelivery =
+    (s : Controller) (id : SourceId) (a : SourceAction) → refusal s (OnSource id a) ≡ 0 →
+    execute s (OnSource id a) ≡ deliveredOnce (effect s (OnSource id a)) (indexOf id)
 
 -- ---- the comparator tree
 

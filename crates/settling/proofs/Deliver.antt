@@ -10,6 +10,7 @@ use Rattle.model.specs.declared.Core.{Core}
 use Rattle.model.specs.declared.Controller.{Controller}
 use Rattle.model.specs.Records.{sourceAt, coreAt}
 use Rattle.model.specs.Requests.{currentPriority, candidate, claimed}
+use Rattle.model.proofs.Candidates.{delivered-no-candidate}
 use Rattle.model.specs.Settling.{deliver}
 use Rattle.lists.proofs.Bools.{clash}
 use Rattle.model.specs.WellFormed.{Holding, Consistent}
@@ -23,6 +24,10 @@ use Rattle.settling.proofs.Arbitrated.{Arbitrated, CandidateBefore, sta
 module _ {s : Controller} {i k : ℕ} (a : Arbitrated s i k) where
   mark-same : (sourceAt (deliver s i k) i) .delivered ≡ true
   mark-same = ap (λ (r : Source). r .delivered) (source-deliver-same s i k (index-in a))
+
+  -- what is delivered is no candidate any more
+  pub deliver-undelivers : candidate (sourceAt (deliver s i k) i) ≡ false
+  deliver-undelivers = sym (delivered-no-candidate (sourceAt (deliver s i k) i) mark-same)
 
   stays-idle :
       (j : ℕ) → (sourceAt s j) .pending ≡ false → (sourceAt s j) .delivered ≡ false → (sourceAt (deliver s i k) j) .delivered ≡ false

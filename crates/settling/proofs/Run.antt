@@ -47,11 +47,11 @@ module _ (s : Controller) (rest : next s ≡ Rest) where
 -- ---- one cycle more
 
 module _ (s : Controller) (c : Cycle) (e : next s ≡ c) where
-  settle-step : (f : ℕ) → settle (suc f) s ≡ settle f (apply c s)
+  pub settle-step : (f : ℕ) → settle (suc f) s ≡ settle f (apply c s)
   unfolding settle
   settle-step f = rw (cycle-is s c e)
 
-  count-step : (kind : Cycle → ℕ) (f : ℕ) → countOf kind (suc f) s ≡ kind c + countOf kind f (apply c s)
+  pub count-step : (kind : Cycle → ℕ) (f : ℕ) → countOf kind (suc f) s ≡ kind c + countOf kind f (apply c s)
   unfolding countOf
   count-step kind f = rw (cycle-is s c e, e)
 
