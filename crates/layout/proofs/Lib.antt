@@ -8,6 +8,7 @@
 pub mod Records
 pub mod Octets
 pub mod RoundTrip
+pub mod InPlace
 pub mod Commands
 pub mod Answers
 mod BytesExamples

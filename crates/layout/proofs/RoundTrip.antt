@@ -23,10 +23,10 @@ use Rattle.lists.proofs.Rows.{length-joined, record-at, tabulated-all, joined-t
 -- ---- a state there and back
 
 module _ (s : Controller) (sized : Sized s) where
-  sources-length : length (joined sourceBytes (s .sources)) ≡ sourceSize * maxSources
+  pub sources-length : length (joined sourceBytes (s .sources)) ≡ sourceSize * maxSources
   sources-length = length-joined sourceBytes sourceSize (λ r. refl) (s .sources) ∙ ap (λ (n : ℕ). sourceSize * n) (sized .sources)
 
-  cores-length : length (joined coreBytes (s .cores)) ≡ coreSize * maxCores
+  pub cores-length : length (joined coreBytes (s .cores)) ≡ coreSize * maxCores
   cores-length = length-joined coreBytes coreSize (λ c. refl) (s .cores) ∙ ap (λ (n : ℕ). coreSize * n) (sized .cores)
 
   state-length : length (stateBytes s) ≡ stateSize
@@ -34,7 +34,7 @@ module _ (s : Controller) (sized : Sized s) where
   state-length = rw (length-append (joined sourceBytes (s .sources)) (joined coreBytes (s .cores)), sources-length, cores-length)
 
   -- what stands where source i and core k begin
-  source-there :
+  pub source-there :
       (i : ℕ) → i < maxSources →
       drop (sourcesFrom + sourceSize * i) (stateBytes s)
       ≡ sourceBytes (sourceAt s i) ++ (joined sourceBytes (drop (suc i) (s .sources)) ++ joined coreBytes (s .cores))
@@ -49,7 +49,7 @@ module _ (s : Controller) (sized : Sized s) where
       drop-at (joined sourceBytes (s .sources)) (joined coreBytes (s .cores)) (sourceSize * maxSources) sources-length
       ∙ sym (append-nil (joined coreBytes (s .cores)))
 
-  core-there :
+  pub core-there :
       (k : ℕ) → k < maxCores →
       drop (coresFrom + coreSize * k) (stateBytes s) ≡ coreBytes (coreAt s k) ++ (joined coreBytes (drop (suc k) (s .cores)) ++ [])
   core-there k h =

@@ -6,6 +6,7 @@ pub mod Tallies
 pub mod Ranges
 pub mod Arrays
 pub mod Writes
+pub mod Stores
 pub mod Filling
 pub mod Counting
 pub mod Winner
