@@ -14,7 +14,7 @@ use Rattle.model.specs.declared.Command.the-variants.{OnCore}
 use Rattle.model.specs.declared.CoreAction.the-variants.{Claim}
 use Rattle.model.specs.declared.Cycle.the-variants.{Rest}
 use Rattle.model.specs.Records.{coreAt, withCore, answer}
-use Rattle.model.specs.WellFormed.{WellFormed, Consistent}
+use Rattle.model.specs.WellFormed.{WellFormed, Consistent, NoneAbove}
 use Rattle.model.specs.Settling.{next, settle}
 use Rattle.model.specs.Commands.{claimedCore, effect, refusalOf, refusal, answeredId, settled, execute}
 use Rattle.lists.proofs.Bools.{clash}
@@ -22,13 +22,13 @@ use Rattle.well_formed.proofs.Test.{wellFormed-in}
 use Rattle.settling.specs.Phases.{Delivering}
 use Rattle.settling.specs.declared.Reached.{Reached}
 use Rattle.settling.specs.Runs.{AfterDeliveries}
-use Rattle.settling.proofs.Next.{Settled, Next, resting, retracting, arbitrating, next-cases}
+use Rattle.settling.proofs.Next.{Next, resting, retracting, arbitrating, next-cases}
 use Rattle.settling.proofs.Run.{settle-rest, cyclesOf-rest}
 use Rattle.effects.proofs.Accepted.{execute-accepted}
 use Rattle.effects.proofs.CoreEffects.{claimed-delivering, current-same}
 use Rattle.effects.proofs.Effects.{wellFormed-delivering, effect-begins}
 
-pub still : (s : Controller) → Consistent s → Delivering s → Settled s → next s ≡ Rest
+pub still : (s : Controller) → Consistent s → Delivering s → NoneAbove s → next s ≡ Rest
 still s c d calm = go (next-cases s (c .some-source) (c .some-core))
   where
     go : Next s → next s ≡ Rest

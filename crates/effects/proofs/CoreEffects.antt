@@ -114,7 +114,9 @@ module _ (s : Controller) (c : Consistent s) (k : ℕ) (k-lt : k < s .m) (filled
   claimed-delivering old =
       record {
         clean = λ j h. read-claimed (λ d. d .message .dirty ≡ false) j (λ e. refl) (old .clean j h);
-        covered = λ j i h h′. rw (current-same i) (read-claimed (λ d. d .message .filled ≡ true → d .configured ≤ currentPriority (coreAt s i)) j (λ e f. clash f refl) (old .covered j i h h′));
+        covered = λ j i h h′. rw (current-same i)
+            (read-claimed (λ d. d .message .filled ≡ true → d .configured ≤ currentPriority (coreAt s i)) j (λ e f. clash f refl)
+            (old .covered j i h h′));
       }
 
   pub claimed-frugal : Frugal s → Frugal (withCores s (claimedCores s k))
@@ -123,7 +125,8 @@ module _ (s : Controller) (c : Consistent s) (k : ℕ) (k-lt : k < s .m) (filled
       (λ c. c .message .filled ≡ true → (getD (claimedCores s k) i noCore) .message .filled ≡ true →
       c .configured < (getD (claimedCores s k) i noCore) .message .priority) j
       (λ e u v. clash u refl)
-      (read-claimed (λ d. (coreAt s j) .message .filled ≡ true → d .message .filled ≡ true → (coreAt s j) .configured < d .message .priority) i
+      (read-claimed (λ d. (coreAt s j) .message .filled ≡ true → d .message .filled ≡ true →
+      (coreAt s j) .configured < d .message .priority) i
       (λ e u v. clash v refl) (f j i h h′))
 
 -- ---- set core priority

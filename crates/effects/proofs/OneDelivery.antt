@@ -16,7 +16,7 @@ use Rattle.model.specs.declared.Command.the-variants.{OnSource}
 use Rattle.model.specs.declared.Cycle.the-variants.{Rest, Deliver}
 use Rattle.model.specs.Records.{noSource, sourceId, coreId, indexOf, sourceAt, coreAt, answer}
 use Rattle.model.specs.Requests.{currentPriority, candidate}
-use Rattle.model.specs.WellFormed.{Consistent}
+use Rattle.model.specs.WellFormed.{Consistent, NoneAbove}
 use Rattle.model.specs.Settling.{deliver, interruptedBy, arbitrate, next, settle, cyclesOf, isRetraction, isDelivery}
 use Rattle.model.specs.Commands.{effect, answeredId, settled, sourceAfter}
 use Rattle.model.specs.Statements.{deliveredOnce, OneDelivery}
@@ -29,7 +29,7 @@ use Rattle.settling.proofs.Keeps.{deliver-keeps, kept-n, kept-m, kept-priority}
 use Rattle.settling.proofs.Writes.{core-deliver-other}
 use Rattle.settling.proofs.Arbitrated.{Arbitrated, CandidateBefore, stayed, evicted}
 use Rattle.settling.proofs.Deliver.{deliver-consistent, deliver-delivering, deliver-current-same, deliver-candidate, deliver-undelivers}
-use Rattle.settling.proofs.Next.{Contest, Settled, topSource, lowCore, next-clean}
+use Rattle.settling.proofs.Next.{Contest, topSource, lowCore, next-clean}
 use Rattle.settling.proofs.Run.{settle-rest, cyclesOf-rest, settle-step, count-step}
 use Rattle.effects.proofs.Accepted.{execute-accepted}
 use Rattle.effects.proofs.Checked.{accepted, named-index}
@@ -52,7 +52,7 @@ module _ (e : Controller) (c : Consistent e) (d : Delivering e) (i : ℕ) (i-lt 
 
   -- ---- the request is above no core
 
-  calm : interruptedBy (coreAt e low) (sourceAt e i) ≡ false → Settled e
+  calm : interruptedBy (coreAt e low) (sourceAt e i) ≡ false → NoneAbove e
   calm none j k h h′ cand = go (ℕ-discrete j i)
     where
       own : candidate (sourceAt e i) ≡ true → (sourceAt e i) .priority ≤ currentPriority (coreAt e low)
@@ -123,7 +123,7 @@ module _ (e : Controller) (c : Consistent e) (d : Delivering e) (i : ℕ) (i-lt 
         go (yes p) = rw (p, deliver-current-same arbitrated) (le-of-lt over)
         go (no p) = rw (core-deliver-other e i low k p) (omega arith)
 
-    rested : Settled after
+    rested : NoneAbove after
     rested j k h h′ cand = go (deliver-candidate arbitrated j j-in cand) (ℕ-discrete j i)
       where
         j-in : j < e .n

@@ -71,9 +71,12 @@ module _ (s : Controller) (c : Consistent s) (i : ℕ) (i-lt : i < s .n) (r : So
         m-le = c .m-le;
         sources-length = length-set (s .sources) i r ∙ c .sources-length;
         cores-length = c .cores-length;
-        configured-source = λ j h. read (λ q. InTop (topPriority (s .n)) (q .configured)) j (λ e. fit .configured) (c .configured-source j h);
-        request-range = λ j h. read (λ q. q .pending ≡ true → InTop (topPriority (s .n)) (q .priority)) j (λ e. fit .request) (c .request-range j h);
-        idle-source = λ j h. read (λ q. q .pending ≡ false → (q .delivered ≡ false) × (q .priority ≡ 0)) j (λ e. fit .idle) (c .idle-source j h);
+        configured-source = λ j h. read (λ q. InTop (topPriority (s .n)) (q .configured)) j (λ e. fit .configured)
+            (c .configured-source j h);
+        request-range = λ j h. read (λ q. q .pending ≡ true → InTop (topPriority (s .n)) (q .priority)) j (λ e. fit .request)
+            (c .request-range j h);
+        idle-source = λ j h. read (λ q. q .pending ≡ false → (q .delivered ≡ false) × (q .priority ≡ 0)) j (λ e. fit .idle)
+            (c .idle-source j h);
         configured-core = c .configured-core;
         empty-box = c .empty-box;
         spare-source = λ j h l. read (λ q. q ≡ resetSource) j (λ e. absurd (omega arith)) (c .spare-source j h l);
@@ -81,7 +84,14 @@ module _ (s : Controller) (c : Consistent s) (i : ℕ) (i-lt : i < s .n) (r : So
         backed = λ k h f.
             let old : Holding s (coreAt s k) = c .backed k h f in
             let named : Names (coreAt s k) (sourceAt (withSource s i r) (indexOf ((coreAt s k) .message .source))) = names k h f in
-            record { some-id = old .some-id; id-le = old .id-le; pending = named .0; delivered = named .1; same-priority = named .2; above = old .above };
+            record {
+              some-id = old .some-id;
+              id-le = old .id-le;
+              pending = named .0;
+              delivered = named .1;
+              same-priority = named .2;
+              above = old .above;
+            };
         distinct = c .distinct;
       }
 

@@ -191,7 +191,8 @@ further =
     -- 4 in a box, then masked: after any set core priority it waits
     case (trigger 4 ∷ mask 4 ∷ []) (corePriority 1 0) 0 0 1 0 0 (waits 4 ∷ []) ∷
     -- two requests of one priority: the lower id is delivered first
-    case (corePriority 0 127 ∷ corePriority 1 127 ∷ sourcePriority 7 5 ∷ trigger 7 ∷ trigger 5 ∷ []) (corePriority 0 0) 0 0 1 5 127 (inBox 5 0 ∷ waits 7 ∷ []) ∷
+    case (corePriority 0 127 ∷ corePriority 1 127 ∷ sourcePriority 7 5 ∷ trigger 7 ∷ trigger 5 ∷ []) (corePriority 0 0) 0 0 1 5 127
+    (inBox 5 0 ∷ waits 7 ∷ []) ∷
     -- document 02, request 2: cores at 3 and 1, a request of 3, then one of 9: 3 is put back, and core 0 isn't disturbed
     case (corePriority 0 3 ∷ corePriority 1 1 ∷ trigger 3 ∷ []) (trigger 9) 0 0 1 3 9 (inBox 9 1 ∷ waits 3 ∷ []) ∷
     -- a lower current priority goes before a filled box

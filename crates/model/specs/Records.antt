@@ -90,8 +90,9 @@ coreWith p b = record { configured = p; message = b }
 abbrev pub noCore : Core
 noCore = coreWith 0 emptyBox
 
+-- A core after a reset is the blank one.
 abbrev pub resetCore : Core
-resetCore = coreWith 0 emptyBox
+resetCore = noCore
 
 -- its box emptied
 abbrev pub emptied : Core → Core

@@ -220,7 +220,8 @@ bothFilled configured = withCore (withSource calm 1 (deliveredAt 4)) 1 (holdsAt 
 -- Cores at 3 and 1, and requests of 3 and 9, as document 02 has them: source 3's request with the delivered mark given, and the cores.
 abbrev threeAndNine : Bool → Core → Core → Controller
 threeAndNine delivered first second =
-    let sources : Controller = withSource (withSource (reset 9 2) 2 (sourceWith 3 false true delivered 3)) 8 (sourceWith 9 false true true 9) in
+    let sources : Controller = withSource (withSource (reset 9 2) 2 (sourceWith 3 false true delivered 3)) 8
+    (sourceWith 9 false true true 9) in
     withCore (withCore sources 0 first) 1 second
 
 -- Each configured priority under a filled box is below every filled box's priority: another core's box refuses 3 under it at 3. And

@@ -8,7 +8,7 @@ use mathlib.Core.List.{List}
 use mathlib.Core.Bool.{Bool, true, false, not, _||_, cond}
 use lib.ListN.{getD, take}
 use lib.Dec.{eqb}
-use Rattle.model.specs.WellFormed.{Frugal, frugal, Quiet, quiet, Clean, boxesClean, Consistent, consistent, wellFormed, WellFormed}
+use Rattle.model.specs.WellFormed.{NoneAbove, Frugal, frugal, Quiet, quiet, Clean, boxesClean, Consistent, consistent, wellFormed, WellFormed}
 use Rattle.lists.specs.Walks.{FirstOf, comparisons}
 use Rattle.model.specs.declared.Source.{Source}
 use Rattle.model.specs.declared.SourceId.{SourceId}
@@ -81,9 +81,8 @@ WellFormedKept = (s : Controller) (c : Command) → WellFormed s → WellFormed 
 -- No box is dirty, and no candidate is above the least current priority: the next cycle does nothing.
 pub record AtRest (s : Controller) : Type 0 where
   pub rests : next s ≡ Rest
-  pub clean : (k : ℕ) → k < s .m → (coreAt s k) .message .dirty ≡ false
-  pub none-above :
-      (i k : ℕ) → i < s .n → k < s .m → candidate (sourceAt s i) ≡ true → (sourceAt s i) .priority ≤ currentPriority (coreAt s k)
+  pub clean : Clean s
+  pub none-above : NoneAbove s
 
 -- The answer a to a command whose effect is e, on m cores, held against f cycles of settling: it has the state and the count that they
 -- give, that state is at rest, and at most m of the cycles are retractions and at most m deliveries.
@@ -107,7 +106,8 @@ CyclesBounded = (s : Controller) (c : Command) → (execute s c) .cycles ≤ 2 *
 abbrev pub deliveredOnce : Controller → ℕ → Answer
 deliveredOnce e i =
     cond
-    (interruptedBy (coreAt e (least (e .cores) (e .m))) (sourceAt e i)) (answer (deliver e i (least (e .cores) (e .m))) 0 0 1) (answer e 0 0 0)
+    (interruptedBy (coreAt e (least (e .cores) (e .m))) (sourceAt e i)) (answer (deliver e i (least (e .cores) (e .m))) 0 0 1)
+    (answer e 0 0 0)
 
 -- A command on a source makes one delivery, of that source's request, exactly if it is above the least core; else the state is at rest.
 abbrev pub OneDelivery : Type 0
@@ -252,13 +252,15 @@ SettlingLeavesBare = (f : ℕ) (s : Controller) → bare (settle f s) ≡ bare s
 abbrev pub PendingChanges : Type 0
 PendingChanges =
     (s : Controller) (c : Command) (i : ℕ) →
-    (sourceAt ((execute s c) .state) i) .pending ≡ cond (eqb (refusal s c) 0) ((sourceIn c (suc i) (sourceAt s i)) .pending) ((sourceAt s i) .pending)
+    (sourceAt ((execute s c) .state) i) .pending ≡ cond (eqb (refusal s c) 0) ((sourceIn c (suc i) (sourceAt s i)) .pending)
+    ((sourceAt s i) .pending)
 
 -- Only an accepted claim or set core priority on a core changes that core's configured priority.
 abbrev pub ConfiguredChanges : Type 0
 ConfiguredChanges =
     (s : Controller) (c : Command) (k : ℕ) →
-    (coreAt ((execute s c) .state) k) .configured ≡ cond (eqb (refusal s c) 0) ((coreIn c k (coreAt s k)) .configured) ((coreAt s k) .configured)
+    (coreAt ((execute s c) .state) k) .configured ≡ cond (eqb (refusal s c) 0) ((coreIn c k (coreAt s k)) .configured)
+    ((coreAt s k) .configured)
 
 -- What answers an id is a claim, and an accepted claim answers that of the box.
 abbrev pub OnlyClaimAnswers : Type 0

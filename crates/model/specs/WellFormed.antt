@@ -156,9 +156,13 @@ pub record Consistent (s : Controller) : Type 0 where
 abbrev pub Clean : Controller → Type 0
 Clean s = (k : ℕ) → k < s .m → (coreAt s k) .message .dirty ≡ false
 
+-- No candidate is above any core's current priority.
+abbrev pub NoneAbove : Controller → Type 0
+NoneAbove s =
+    (i k : ℕ) → i < s .n → k < s .m → candidate (sourceAt s i) ≡ true → (sourceAt s i) .priority ≤ currentPriority (coreAt s k)
+
 pub record Quiet (s : Controller) : Type 0 where
-  pub candidates-settled :
-      (i k : ℕ) → i < s .n → k < s .m → candidate (sourceAt s i) ≡ true → (sourceAt s i) .priority ≤ currentPriority (coreAt s k)
+  pub candidates-settled : NoneAbove s
   pub covered-settled :
       (j k : ℕ) → j < s .m → k < s .m → (coreAt s j) .message .filled ≡ true → (coreAt s j) .configured ≤ currentPriority (coreAt s k)
 

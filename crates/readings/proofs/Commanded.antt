@@ -126,7 +126,8 @@ module _ (r : Reader) (w : Word) (h : Fit r) where
   code-fit p none = h
   code-fit p (some s) = go (leb (r .pending .vector .length) ((variable r s) .width)) refl
     where
-      go : (b : Bool) → leb (r .pending .vector .length) ((variable r s) .width) ≡ b → Fit (cond b (at p (withValue s (r .pending .vector .value) r)) (outOfPlace w r))
+      go : (b : Bool) → leb (r .pending .vector .length) ((variable r s) .width) ≡ b →
+          Fit (cond b (at p (withValue s (r .pending .vector .value) r)) (outOfPlace w r))
       go true e = given-fit s (leb-true _ _ e)
       go false e = h
 
@@ -141,7 +142,8 @@ stamp-fit n r h = go ((level r) .known) (rises r) (isReadable r) (leb maxCommand
     go : (k v d x : Bool) →
         Fit
         ((cond (not k) (only (refused 13 n r)) (cond (not v) (only (withUp (isHigh r) r))
-        (cond (not d) (only (refused 13 n r)) (cond x (only (refused 19 n r)) (readWith (withTaken (suc (r .taken)) (withUp true r)) (strobeOf r)))))) .reader)
+        (cond (not d) (only (refused 13 n r))
+        (cond x (only (refused 19 n r)) (readWith (withTaken (suc (r .taken)) (withUp true r)) (strobeOf r)))))) .reader)
     go false v d x = h
     go true false d x = h
     go true true false x = h

@@ -13,7 +13,7 @@ use Rattle.model.specs.declared.Cycle.the-variants.{Rest, Deliver}
 use Rattle.model.specs.Records.{sourceId, coreId, sourceAt, coreAt}
 use Rattle.model.specs.Priorities.{topPriority}
 use Rattle.model.specs.Requests.{currentPriority, candidate}
-use Rattle.model.specs.WellFormed.{Consistent}
+use Rattle.model.specs.WellFormed.{Consistent, NoneAbove}
 use Rattle.model.specs.Settling.{deliver, next}
 use Rattle.lists.proofs.Bools.{clash}
 use Rattle.model.proofs.Candidates.{candidate-pending}
@@ -23,12 +23,12 @@ use Rattle.settling.proofs.Writes.{core-deliver-other}
 use Rattle.settling.proofs.Keeps.{deliver-keeps, kept-n, kept-m, kept-priority}
 use Rattle.settling.proofs.Arbitrated.{Arbitrated, CandidateBefore, stayed, evicted}
 use Rattle.settling.proofs.Deliver.{deliver-consistent, deliver-current-same, deliver-delivering, deliver-claimed, deliver-candidate}
-use Rattle.settling.proofs.Next.{Contest, Settled, Next, resting, retracting, arbitrating, next-cases}
+use Rattle.settling.proofs.Next.{Contest, Next, resting, retracting, arbitrating, next-cases}
 use Rattle.settling.proofs.Run.{ended-here, ended-step, ended-within}
 
 -- ---- at rest the state is sound, but for its last layer
 
-settled-strict : {s : Controller} → Consistent s → Delivering s → Settled s → Strict s
+settled-strict : {s : Controller} → Consistent s → Delivering s → NoneAbove s → Strict s
 settled-strict c d st =
     record { consistent = c; clean = d .clean; quiet = record { candidates-settled = st; covered-settled = d .covered } }
 

@@ -17,6 +17,7 @@ use Rattle.model.specs.declared.Cycle.the-variants.{Rest, Retract, Deliver}
 use Rattle.model.specs.Records.{noCore, sourceId, coreId, sourceAt, coreAt}
 use Rattle.model.specs.Requests.{currentPriority, candidate}
 use Rattle.model.specs.Arbitration.{highest, least}
+use Rattle.model.specs.WellFormed.{NoneAbove}
 use Rattle.model.specs.Settling.{firstDirty, interruptedBy, arbitrate, next}
 use Rattle.arbitration.proofs.Tree.{highest-below, highest-ge}
 use Rattle.arbitration.proofs.LeastCore.{least-below, least-le}
@@ -59,12 +60,8 @@ pub record Contest (s : Controller) (i k : ℕ) : Type 0 where
   pub least : (j : ℕ) → j < s .m → currentPriority (coreAt s k) ≤ currentPriority (coreAt s j)
   pub above : currentPriority (coreAt s k) < (sourceAt s i) .priority
 
--- No candidate is above any core's current priority.
-abbrev pub Settled : Controller → Type 0
-Settled s = (i k : ℕ) → i < s .n → k < s .m → candidate (sourceAt s i) ≡ true → (sourceAt s i) .priority ≤ currentPriority (coreAt s k)
-
 pub data Next (s : Controller) : Type 0 where
-  resting : next s ≡ Rest → Clean (s .cores) (s .m) → Settled s → Next s
+  resting : next s ≡ Rest → Clean (s .cores) (s .m) → NoneAbove s → Next s
   retracting : (k : ℕ) → next s ≡ Retract (coreId k) → k < s .m → dirtyAt (s .cores) k ≡ true → Next s
   arbitrating : (i k : ℕ) → next s ≡ Deliver (sourceId (suc i)) (coreId k) → Clean (s .cores) (s .m) → Contest s i k → Next s
 
@@ -89,7 +86,7 @@ module _ (s : Controller) (some-source : 1 ≤ s .n) (some-core : 1 ≤ s .m) wh
         above = ltb-true _ _ (and-r (candidate (sourceAt s (topSource s))) _ e);
       }
 
-  settled : interrupts s ≡ false → Settled s
+  settled : interrupts s ≡ false → NoneAbove s
   settled e i k p q c = go (decLt low high) (highest-ge (s .sources) (s .n) i p c)
     where
       low : ℕ

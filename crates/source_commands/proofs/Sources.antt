@@ -19,7 +19,7 @@ use Rattle.model.specs.declared.SourceAction.{SourceAction}
 use Rattle.model.specs.declared.SourceAction.the-variants.{SetSourcePriority, Mask, Unmask, Trigger, Redeliver, Complete}
 use Rattle.model.specs.Records.{maxSources, maxCores, noSource, sourceId, indexOf, sourceAt, coreAt, withSource, answer}
 use Rattle.model.specs.Requests.{currentPriority, waiting, candidate, boxed, claimed}
-use Rattle.model.specs.WellFormed.{wellFormed, WellFormed, Consistent}
+use Rattle.model.specs.WellFormed.{wellFormed, WellFormed, Consistent, NoneAbove}
 use Rattle.model.specs.Commands.{namesSource, sourceAfter, sourceRefusal, effect, refusalOf, answeredId, settled, execute}
 use Rattle.lists.proofs.Exact.{between-exact}
 use Rattle.lists.proofs.Bools.{passing, and-r, clash}
@@ -29,7 +29,6 @@ use Rattle.well_formed.proofs.Test.{wellFormed-out}
 use Rattle.settling.specs.declared.Reached.{Reached}
 use Rattle.settling.specs.Phases.{Delivering}
 use Rattle.settling.specs.Runs.{AfterDeliveries}
-use Rattle.settling.proofs.Next.{Settled}
 use Rattle.effects.proofs.Effects.{effect-consistent}
 use Rattle.effects.proofs.AtRest.{still, unmoved, delivered}
 use Rattle.effects.proofs.Answers.{free, answers}
@@ -141,7 +140,7 @@ module _
   pub after-deliveries : {r : Reached} → AfterDeliveries next 0 r → answer (r .state) 0 0 (r .cycles) ≡ execute s (OnSource id a)
   after-deliveries after = delivered next 0 after ∙ settles
 
-  settled-still : delivers a ≡ false → Settled next
+  settled-still : delivers a ≡ false → NoneAbove next
   settled-still d i k i-lt k-lt =
       let fits : id .0 - 1 < length (s .sources) = omega (arith, w .consistent .sources-length, h .in-array) in
       read-set (λ q. candidate q ≡ true → q .priority ≤ currentPriority (coreAt s k)) (s .sources) (id .0 - 1) i x noSource fits

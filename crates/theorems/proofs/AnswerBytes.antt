@@ -64,7 +64,9 @@ kept-refused s (c ∷ cs) rest h =
 
 execute-m : (s : Controller) (c : Command) → (execute s c) .state .m ≡ s .m
 unfolding settled refused
-execute-m s c = by-answer s c (λ a. a .state .m ≡ s .m) (λ e. kept-m (effect s c) (settle (2 * (effect s c) .m) (effect s c)) (settling-leaves-bare (2 * (effect s c) .m) (effect s c)) ∙ effect-m s c) (λ h. refl)
+execute-m s c = by-answer s c (λ a. a .state .m ≡ s .m)
+    (λ e. kept-m (effect s c) (settle (2 * (effect s c) .m) (effect s c)) (settling-leaves-bare (2 * (effect s c) .m) (effect s c)) ∙
+    effect-m s c) (λ h. refl)
 
 pub cycles-told :
     (m : ℕ) (s : Controller) (cs : List Command) (rest : List ℕ) → s .m ≡ m → (i : ℕ) → i < length cs →

@@ -40,7 +40,8 @@ module _ (n m : ℕ) (b : Ledger) (s : Controller) (M : Matches n m b s) (W : We
     soiled-boxed : (id : ℕ) → boxed (setCores s k p) (s .m) id ≡ boxed (s .cores) (s .m) id
     soiled-boxed id =
         boxed-agree (setCores s k p) (s .cores) (s .m) id
-        (λ j h. rw (List·getD-map soiled (set (s .cores) k rewritten) j noCore) (read-kept (λ x c. holds id c) (s .cores) k j rewritten noCore refl))
+        (λ j h. rw (List·getD-map soiled (set (s .cores) k rewritten) j noCore)
+        (read-kept (λ x c. holds id c) (s .cores) k j rewritten noCore refl))
 
     pub core-priority-matches : Matches n m (writeCore k p b) (withCores s (setCores s k p))
     core-priority-matches =
@@ -54,7 +55,8 @@ module _ (n m : ℕ) (b : Ledger) (s : Controller) (M : Matches n m b s) (W : We
         }
 
   -- the box of core k holds the request of source i + 1
-  module _ (i : ℕ) (source-named : i < n) (filled : (coreAt s k) .message .filled ≡ true) (names : (coreAt s k) .message .source .0 ≡ suc i) where
+  module _ (i : ℕ) (source-named : i < n) (filled : (coreAt s k) .message .filled ≡ true)
+      (names : (coreAt s k) .message .source .0 ≡ suc i) where
     backed : Holding s (coreAt s k)
     backed = W .consistent .backed k (omega arith) filled
 
@@ -74,28 +76,35 @@ module _ (n m : ℕ) (b : Ledger) (s : Controller) (M : Matches n m b s) (W : We
     not-elsewhere : (j : ℕ) → j < s .m → j ≢ k → holds (suc i) (coreAt s j) ≡ false
     not-elsewhere j h apart =
         refuted (holds (suc i) (coreAt s j))
-        (λ e. apart (W .consistent .distinct j k h (omega arith) (holds-filled (suc i) (coreAt s j) e) filled (holds-source (suc i) (coreAt s j) e ∙ sym names)))
+        (λ e. apart (W .consistent .distinct j k h (omega arith) (holds-filled (suc i) (coreAt s j) e) filled
+        (holds-source (suc i) (coreAt s j) e ∙ sym names)))
 
     unboxed : boxed (claimedCores s k) (s .m) (suc i) ≡ false
     unboxed =
         unboxed-in (claimedCores s k) (s .m) (suc i)
-        (λ j h. read-set (λ c. holds (suc i) c ≡ false) (s .cores) k j (claimedCore (coreAt s k)) noCore inside (λ e. refl) (not-elsewhere j h))
+        (λ j h. read-set (λ c. holds (suc i) c ≡ false) (s .cores) k j (claimedCore (coreAt s k)) noCore inside (λ e. refl)
+        (not-elsewhere j h))
 
     others-boxed : (j : ℕ) → j ≢ i → boxed (claimedCores s k) (s .m) (suc j) ≡ boxed (s .cores) (s .m) (suc j)
     others-boxed j apart =
         boxed-agree (claimedCores s k) (s .cores) (s .m) (suc j)
-        (λ x h. read-kept (λ y c. holds (suc j) c) (s .cores) k x (claimedCore (coreAt s k)) noCore (rw (filled, names, ne-eqb (suc i) (suc j) (omega arith))))
+        (λ x h. read-kept (λ y c. holds (suc j) c) (s .cores) k x (claimedCore (coreAt s k)) noCore
+        (rw (filled, names, ne-eqb (suc i) (suc j) (omega arith))))
 
     request-claimed :
         (j : ℕ) → j < n →
         write (b .request) (suc i) (claimedRequest (priorityOf (b .request (suc i)))) (suc j) ≡ requestOf (withCores s (claimedCores s k)) j
     request-claimed j h = go (ℕ-discrete j i)
       where
-        go : Dec (j ≡ i) → write (b .request) (suc i) (claimedRequest (priorityOf (b .request (suc i)))) (suc j) ≡ requestOf (withCores s (claimedCores s k)) j
+        go :
+            Dec (j ≡ i) →
+            write (b .request) (suc i) (claimedRequest (priorityOf (b .request (suc i)))) (suc j) ≡ requestOf (withCores s (claimedCores s k)) j
         go (yes e) = rw (e, eq-eqb (suc i) (suc i) refl, unboxed, pending, delivered, ledger-priority)
         go (no apart) = rw (ne-eqb (suc j) (suc i) (omega arith), others-boxed j apart) (M .request j h)
 
-    pub claim-matches : Matches n m (writeCore k (priorityOf (b .request (suc i))) (writeRequest (suc i) (claimedRequest (priorityOf (b .request (suc i)))) b)) (withCore s k (claimedCore (coreAt s k)))
+    pub claim-matches : Matches n m
+        (writeCore k (priorityOf (b .request (suc i))) (writeRequest (suc i) (claimedRequest (priorityOf (b .request (suc i)))) b))
+        (withCore s k (claimedCore (coreAt s k)))
     claim-matches =
         record {
           n-same = M .n-same;

@@ -53,7 +53,9 @@ module _ (b : Ledger) (s : Controller) (w : WellFormed s) (match : Matches (s .n
       (λ j p. under-box j k p h v))
 
   covered-under : (k : ℕ) → k < s .m → filled k ≡ true → (coreAt s k) .configured < bar
-  covered-under k h v = let le : (coreAt s k) .configured ≤ greatest (s .m) covered = rw v at (greatest-le (s .m) covered k h) in omega arith
+  covered-under k h v =
+      let le : (coreAt s k) .configured ≤ greatest (s .m) covered = rw v at (greatest-le (s .m) covered k h) in
+      omega arith
 
   shown : (k : ℕ) → k < s .m → one (filled k) + reach bar (b .core k) ≤ reach bar (current k)
   shown k h = go (flag (filled k))

@@ -77,7 +77,12 @@ module _ (b : Ledger) (s : Controller) (w : WellFormed s) (match : Matches (s .n
           let h : Held b s k = held k below (filled k p) in
           rw (filled k p, h .named)
           (competes-in (s .n) (s .m) b s (suc (h .i))
-          (record { some-id = omega arith; id-le = h .below; is-open = rw (h .request); placed = or-in-l (not (b .masked (suc (h .i)))) (h .inside) }))
+          (record {
+            some-id = omega arith;
+            id-le = h .below;
+            is-open = rw (h .request);
+            placed = or-in-l (not (b .masked (suc (h .i)))) (h .inside);
+          }))
 
       above : (k : ℕ) → k < s .m → 1 ≤ inBoxes s k → b .core k < requestPriority b (inBoxes s k)
       above k below p =

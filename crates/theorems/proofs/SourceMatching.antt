@@ -85,7 +85,9 @@ module _ (n m : ℕ) (b : Ledger) (s : Controller) (M : Matches n m b s) (W : We
   pub complete-matches : Matches n m (writeRequest (suc i) noRequest b) (withSource s i (ended (sourceAt s i)))
   complete-matches = request-written (ended (sourceAt s i)) noRequest refl refl refl
 
-  pub redeliver-matches : (sourceAt s i) .pending ≡ true → Matches n m (writeRequest (suc i) (openRequest (priorityOf (b .request (suc i)))) b) (withSource s i (withDelivered false (sourceAt s i)))
+  pub redeliver-matches : (sourceAt s i) .pending ≡ true →
+      Matches n m (writeRequest (suc i) (openRequest (priorityOf (b .request (suc i)))) b)
+      (withSource s i (withDelivered false (sourceAt s i)))
   redeliver-matches e =
       request-written (withDelivered false (sourceAt s i)) (openRequest (priorityOf (b .request (suc i)))) refl refl
       (rw (pending-priority n m b s M i named e, e))

@@ -103,7 +103,8 @@ module _ (s : Controller) (some : 1 ≤ s .m) where
       (λ i. implies-exact (candidate (sourceAt s i)) (least-exact (s .cores) (s .m) ((sourceAt s i) .priority) some))
 
   covered-exact : Exact (coveredSettled s)
-      ((j : ℕ) → j < s .m → (coreAt s j) .message .filled ≡ true → (k : ℕ) → k < s .m → (coreAt s j) .configured ≤ currentPriority (coreAt s k))
+      ((j : ℕ) → j < s .m → (coreAt s j) .message .filled ≡ true → (k : ℕ) → k < s .m →
+      (coreAt s j) .configured ≤ currentPriority (coreAt s k))
   unfolding coveredSettled
   covered-exact =
       every-exact (s .m)

@@ -106,13 +106,21 @@ left-inside :
     c .before .highest .result < maxSources
 left-inside t c =
     let a = c .before .before .before .before .args in
-    omega (arith, highest-inside (a .keys .now) (a .lo) (leftHalf (a .len)) (c .before .highest .result) (omega arith) (c .before .highest .ensures))
+    omega (
+      arith,
+      highest-inside (a .keys .now) (a .lo) (leftHalf (a .len)) (c .before .highest .result) (omega arith)
+          (c .before .highest .ensures),
+    )
 
 right-inside :
     (t : ℕ) (c : highest-lts.After-highest2 (highest-below t, highest.Post) (highest-at t) highest.Post) → c .highest2 .result < maxSources
 right-inside t c =
     let a = c .before .before .before .before .args in
-    omega (arith, highest-inside (a .keys .now) (a .lo + leftHalf (a .len)) (a .len / 2) (c .highest2 .result) (omega arith) (c .highest2 .ensures))
+    omega (
+      arith,
+      highest-inside (a .keys .now) (a .lo + leftHalf (a .len)) (a .len / 2) (c .highest2 .result) (omega arith)
+          (c .highest2 .ensures),
+    )
 
 highest-mul-if4 :
     (t : ℕ) → highest-lts.Need-mul-if4 (highest-below t, highest.Post) (highest-at t) highest.Post

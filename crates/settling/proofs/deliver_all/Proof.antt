@@ -148,7 +148,8 @@ add-if1 : tie.Need-add-if1 Inv-loop μ-loop Inv-loop2 μ-loop2 Inv-loop3 μ-loop
 add-if1 c = search needs
 
 -- the core that the turn writes is found
-abbrev found : tie.Else1 Inv-loop μ-loop Inv-loop2 μ-loop2 Inv-loop3 μ-loop3 → tie.After-least Inv-loop μ-loop Inv-loop2 μ-loop2 Inv-loop3 μ-loop3
+abbrev found : tie.Else1 Inv-loop μ-loop Inv-loop2 μ-loop2 Inv-loop3 μ-loop3 →
+    tie.After-least Inv-loop μ-loop Inv-loop2 μ-loop2 Inv-loop3 μ-loop3
 found c = c .before .before .before
 
 -- the turn delivers

@@ -19,7 +19,11 @@ is-idle-requires c κs = search needs
 
 returns-3 : tie.Need-returns-3
 unfolding isResetSource isIdle
-returns-3 c = rw (eq-eqb _ _ (c .before .before .before .if1 .left), not-false (c .before .before .before .before .before .args .s .masked) (c .before .if2 .left), c .is-idle .ensures)
+returns-3 c = rw (
+  eq-eqb _ _ (c .before .before .before .if1 .left),
+  not-false (c .before .before .before .before .before .args .s .masked) (c .before .if2 .left),
+  c .is-idle .ensures,
+)
 
 pub is-reset-source-spec : {M : Type 1} → statement M
 is-reset-source-spec = tie.close (tie.spec returns returns-2 is-idle-requires returns-3)

@@ -1,6 +1,6 @@
--- `well_formed::survey_cores` meets its contract. The first loop's invariant: the cores below k are sound, `seen` marks the sources in their
--- boxes, and the survey is what they show. The second's: the flag says whether every spare core below k is reset. Each early answer is
--- refuted by what sound cores have there. Assumes nothing.
+-- `well_formed::survey_cores` meets its contract. The first loop's invariant: the cores below k are sound, `seen` marks the sources in
+-- their boxes, and the survey is what they show. The second's: the flag says whether every spare core below k is reset. Each early
+-- answer is refuted by what sound cores have there. Assumes nothing.
 use Prim.Native.Nat.{ℕ, _+_, _≤_, _-_}
 use mathlib.Core.Path.{_≡_, _∙_, ap}
 use mathlib.Core.Bool.{true}
