@@ -1,11 +1,12 @@
 // A state, a word and a command read from bytes, and a command from its numbers. The bytes are those of layout/specs/Bytes.antt. Calls for
 // the exports, which test lengths first; the program cases reads its commands here too.
-ghost use Prim.Native.Nat.{_+_, _<_, _≤_};
+ghost use Prim.Native.Nat.{_+_, _*_, _<_, _≤_};
 ghost use mathlib.Core.Path.{_≡_};
 ghost use lib.ListN.{length};
 ghost use Rattle.layout.specs.Commands.{commandOf};
 ghost use Rattle.layout.specs.Bytes.{wordAt, sourceSize, coreSize, stateSize, sourceFrom, coreFrom, stateFrom};
-ghost use Rattle.layout.specs.Bytes.{sourceFlags, coreFlags, isState};
+ghost use Rattle.layout.specs.Bytes.{sourcesFrom, coresFrom, sourceFlags, coreFlags, isState};
+ghost use Rattle.model.specs.Records.{maxSources, maxCores};
 use layout::BOX_DIRTY;
 use layout::BOX_FILLED;
 use layout::BOX_PRIORITY;
@@ -70,6 +71,21 @@ fn core_from(b: &[u8], i: usize) -> Core
             word_at(b, i + BOX_PRIORITY),
         ),
     )
+}
+
+// Source i + 1 and core k of a state, read where they lie in its bytes.
+pub fn source_at(b: &[u8], i: usize) -> Source
+    requires { ⌜ (length (now b) ≡ stateSize) × (i < maxSources) ⌝ }
+    ensures { λ r. ⌜ r ≡ sourceFrom (now (b .entry)) (sourcesFrom + sourceSize * i) ⌝ }
+{
+    source_from(b, SOURCES_FROM + SOURCE_SIZE * i)
+}
+
+pub fn core_at(b: &[u8], k: usize) -> Core
+    requires { ⌜ (length (now b) ≡ stateSize) × (k < maxCores) ⌝ }
+    ensures { λ r. ⌜ r ≡ coreFrom (now (b .entry)) (coresFrom + coreSize * k) ⌝ }
+{
+    core_from(b, CORES_FROM + CORE_SIZE * k)
 }
 
 // The state that the bytes encode.

@@ -1,13 +1,14 @@
 // A state, a command and an answer written as bytes. The bytes are those of layout/specs/Bytes.antt. Calls for the exports, which test
 // lengths first.
-ghost use Prim.Native.Nat.{_+_, _<_, _≤_};
+ghost use Prim.Native.Nat.{_+_, _*_, _<_, _≤_};
+ghost use Rattle.model.specs.Records.{maxSources, maxCores};
 ghost use mathlib.Core.Path.{_≡_};
 ghost use mathlib.Core.List.{_∷_, _++_};
 ghost use lib.ListN.{length};
 ghost use lib.Seq.{sets};
 ghost use Rattle.layout.specs.Commands.{sourceNumber, coreNumber, sourceLevel, coreLevel, numberOf, targetOf, levelOf};
 ghost use Rattle.layout.specs.Bytes.{word, flagByte, sourceSize, coreSize, stateSize, commandSize, answerSize};
-ghost use Rattle.layout.specs.Bytes.{sourceBytes, coreBytes, stateBytes, commandBytes};
+ghost use Rattle.layout.specs.Bytes.{sourcesFrom, coresFrom, sourceBytes, coreBytes, stateBytes, commandBytes};
 use layout::BOX_DIRTY;
 use layout::BOX_FILLED;
 use layout::BOX_PRIORITY;
@@ -71,6 +72,21 @@ fn put_core(b: &mut [u8], i: usize, c: Core)
     b[i + BOX_DIRTY] = flag_byte(c.message.dirty);
     put_word(b, i + BOX_SOURCE, c.message.source.0);
     put_word(b, i + BOX_PRIORITY, c.message.priority);
+}
+
+// Source i + 1 and core k of a state, written where they lie in its bytes.
+pub fn put_source_at(b: &mut [u8], i: usize, r: Source)
+    requires { ⌜ (length (now b) ≡ stateSize) × (i < maxSources) ⌝ }
+    ensures { λ x. ⌜ now (b .exit) ≡ sets (now (b .entry)) (sourcesFrom + sourceSize * i) (sourceBytes r) ⌝ }
+{
+    put_source(b, SOURCES_FROM + SOURCE_SIZE * i, r);
+}
+
+pub fn put_core_at(b: &mut [u8], k: usize, c: Core)
+    requires { ⌜ (length (now b) ≡ stateSize) × (k < maxCores) ⌝ }
+    ensures { λ x. ⌜ now (b .exit) ≡ sets (now (b .entry)) (coresFrom + coreSize * k) (coreBytes c) ⌝ }
+{
+    put_core(b, CORES_FROM + CORE_SIZE * k, c);
 }
 
 // The state's bytes, written over a buffer of just their length.

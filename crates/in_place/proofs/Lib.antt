@@ -1,0 +1,2 @@
+-- What the code stores, from what each call leaves; and that it is what the definitions say.
+pub mod Stored

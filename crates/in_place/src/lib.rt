@@ -1,0 +1,40 @@
+// Commands on a sound state that lies in a host's bytes: the records that change are read, made anew, and written back where they lie.
+ghost use Prim.Native.Nat.{_<_, _≤_};
+ghost use mathlib.Core.Path.{_≡_};
+ghost use mathlib.Core.Bool.{true};
+ghost use lib.ListN.{length, set};
+ghost use Rattle.model.specs.Records.{maxSources, maxCores};
+ghost use Rattle.model.specs.Arbitration.{coreKey};
+ghost use Rattle.layout.specs.Bytes.{stateSize};
+ghost use Rattle.in_place.specs.Places.{putBackAt, deliverAt, takenBy};
+use model::CORES;
+use model::Core;
+use model::Source;
+use model::SourceId;
+
+// The request in the box of core record c, if there is one, goes back to waiting.
+fn put_back(state: &mut [u8], c: Core)
+    requires { ⌜ (length (now state) ≡ stateSize) ×
+        (c .message .filled ≡ true → (1 ≤ c .message .source .0) × (c .message .source .0 ≤ maxSources)) ⌝ }
+    ensures { λ x. ⌜ now (state .exit) ≡ putBackAt (now (state .entry)) (c .message) ⌝ }
+{
+    if c.message.filled {
+        let old = c.message.source.0 as usize - 1;
+        let r = decoding::source_at(state, old);
+        encoding::put_source_at(state, old, records::with_delivered(r, false));
+    }
+}
+
+// The request of source i + 1, whose record is r, goes into the box of core k, whose record is c; keys are the cores' keys.
+fn deliver(state: &mut [u8], keys: &mut [u32; CORES], i: usize, r: Source, k: usize, c: Core)
+    requires { ⌜ (length (now state) ≡ stateSize) × (i < maxSources) × (k < maxCores) ×
+        (c .message .filled ≡ true → (1 ≤ c .message .source .0) × (c .message .source .0 ≤ maxSources)) ⌝ }
+    ensures { λ x. ⌜ (now (state .exit) ≡ deliverAt (now (state .entry)) i r k c) ×
+        (now (keys .exit) ≡ set (now (keys .entry)) k (coreKey (takenBy c i r))) ⌝ }
+{
+    put_back(state, c);
+    encoding::put_source_at(state, i, records::with_delivered(r, true));
+    let taken = records::filled_with(c, SourceId(i as u16 + 1), r.priority);
+    encoding::put_core_at(state, k, taken);
+    keys[k] = records::core_key(taken);
+}
