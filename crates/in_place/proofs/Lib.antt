@@ -1,2 +1,3 @@
 -- What the code stores, from what each call leaves; and that it is what the definitions say.
 pub mod Stored
+pub mod Offering

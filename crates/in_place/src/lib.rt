@@ -6,7 +6,7 @@ ghost use lib.ListN.{length, set};
 ghost use Rattle.model.specs.Records.{maxSources, maxCores};
 ghost use Rattle.model.specs.Arbitration.{coreKey};
 ghost use Rattle.layout.specs.Bytes.{stateSize};
-ghost use Rattle.in_place.specs.Places.{putBackAt, deliverAt, takenBy};
+ghost use Rattle.in_place.specs.Places.{putBackAt, deliverAt, takenBy, Offered, AfterOffer};
 use model::CORES;
 use model::Core;
 use model::Source;
@@ -37,4 +37,19 @@ fn deliver(state: &mut [u8], keys: &mut [u32; CORES], i: usize, r: Source, k: us
     let taken = records::filled_with(c, SourceId(i as u16 + 1), r.priority);
     encoding::put_core_at(state, k, taken);
     keys[k] = records::core_key(taken);
+}
+
+// The request of source i + 1, whose record is r, goes to the least of m cores, if it is a candidate and strictly above it. The cycles are
+// answered: one for a delivery, else none.
+fn offer(state: &mut [u8], keys: &mut [u32; CORES], m: usize, i: usize, r: Source) -> u16
+    requires { ⌜ Offered (now state) (now keys) m i r ⌝ }
+    ensures { λ x. ⌜ AfterOffer (now (state .entry)) i x (now (state .exit)) (now (keys .exit)) ⌝ }
+{
+    let k = arbitration::least(keys, m);
+    let c = decoding::core_at(state, k);
+    if records::rank(r) <= records::current_priority(c) as u32 + 1 {
+        return 0;
+    }
+    deliver(state, keys, i, r, k, c);
+    1
 }

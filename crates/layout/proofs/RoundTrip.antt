@@ -29,7 +29,7 @@ module _ (s : Controller) (sized : Sized s) where
   pub cores-length : length (joined coreBytes (s .cores)) ≡ coreSize * maxCores
   cores-length = length-joined coreBytes coreSize (λ c. refl) (s .cores) ∙ ap (λ (n : ℕ). coreSize * n) (sized .cores)
 
-  state-length : length (stateBytes s) ≡ stateSize
+  pub state-length : length (stateBytes s) ≡ stateSize
   unfolding stateBytes
   state-length = rw (length-append (joined sourceBytes (s .sources)) (joined coreBytes (s .cores)), sources-length, cores-length)
 

@@ -38,14 +38,14 @@ pub record Keyed (s : Controller) (ks cs : List ℕ) : Type 0 where
 
 -- ---- a rank beside a current priority
 
-rank-above : (c : Core) (r : Source) → currentPriority c + 1 < rank r → interruptedBy c r ≡ true
+pub rank-above : (c : Core) (r : Source) → currentPriority c + 1 < rank r → interruptedBy c r ≡ true
 rank-above c r h = go (flag (candidate r))
   where
     go : Flag (candidate r) → interruptedBy c r ≡ true
     go (on e) = and-in e (lt-ltb (currentPriority c) (r .priority) (omega (arith, rank-candidate r e)))
     go (off e) = absurd (omega (arith, rank-none r e))
 
-rank-not-above : (c : Core) (r : Source) → rank r ≤ currentPriority c + 1 → interruptedBy c r ≡ false
+pub rank-not-above : (c : Core) (r : Source) → rank r ≤ currentPriority c + 1 → interruptedBy c r ≡ false
 rank-not-above c r h = go (flag (candidate r))
   where
     go : Flag (candidate r) → interruptedBy c r ≡ false
