@@ -1,2 +1,2 @@
 -- From the tests that the code makes to those of the definitions.
-mod Tests
+pub mod Tests

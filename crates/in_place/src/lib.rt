@@ -5,7 +5,8 @@ ghost use mathlib.Core.Bool.{true};
 ghost use lib.ListN.{length, set};
 ghost use Rattle.model.specs.Records.{maxSources, maxCores};
 ghost use Rattle.model.specs.Arbitration.{coreKey};
-ghost use Rattle.layout.specs.Bytes.{stateSize};
+ghost use Rattle.model.specs.Requests.{boxed as boxedIn};
+ghost use Rattle.layout.specs.Bytes.{stateSize, stateFrom};
 ghost use Rattle.in_place.specs.Places.{putBackAt, deliverAt, takenBy, Offered, AfterOffer};
 use model::CORES;
 use model::Core;
@@ -52,4 +53,22 @@ fn offer(state: &mut [u8], keys: &mut [u32; CORES], m: usize, i: usize, r: Sourc
     }
     deliver(state, keys, i, r, k, c);
     1
+}
+
+// Whether a filled box of the first m cores names the source.
+fn boxed(state: &[u8], m: usize, id: SourceId) -> bool
+    requires { ⌜ (length (now state) ≡ stateSize) × (m ≤ maxCores) ⌝ }
+    ensures { λ r. ⌜ r ≡ boxedIn ((stateFrom (now (state .entry))) .cores) m (id .0) ⌝ }
+{
+    let mut k = 0;
+    while k < m {
+        let c = decoding::core_at(state, k);
+        if c.message.filled {
+            if c.message.source.0 == id.0 {
+                return true;
+            }
+        }
+        k += 1;
+    }
+    false
 }

@@ -1,4 +1,5 @@
 -- One record of a state's bytes, read and written where it lies. Assumes nothing.
+--   source-read, core-read            the state that bytes encode has the records that are read at their places
 --   source-in-place, core-in-place    what is read at its place is the record
 --   source-stored, core-stored        its bytes stored there leave the bytes of the state with that record
 use Prim.Native.Nat.{ℕ, _+_, _*_, _<_}
@@ -10,13 +11,23 @@ use native.Mathlib.Omega.{arith}
 use Rattle.model.specs.declared.Source.{Source}
 use Rattle.model.specs.declared.Core.{Core}
 use Rattle.model.specs.declared.Controller.{Controller}
-use Rattle.model.specs.Records.{maxSources, maxCores, sourceAt, coreAt, withSource, withCore}
+use Rattle.model.specs.Records.{maxSources, maxCores, noSource, noCore, sourceAt, coreAt, withSource, withCore}
 use Rattle.lists.specs.Rows.{joined}
+use Rattle.lists.proofs.Rows.{getD-tabulated}
 use Rattle.lists.proofs.Stores.{sets-front, sets-behind, sets-joined}
-use Rattle.layout.specs.Bytes.{word, sourceSize, coreSize, sourcesFrom, coresFrom, sourceBytes, coreBytes, stateBytes, sourceFrom, coreFrom}
+use Rattle.layout.specs.Bytes.{word, sourceSize, coreSize, sourcesFrom, coresFrom, sourceBytes, coreBytes, stateBytes, sourceFrom, coreFrom, stateFrom}
 use Rattle.layout.specs.Statements.{Sized}
 use Rattle.layout.proofs.Records.{source-back, core-back}
 use Rattle.layout.proofs.RoundTrip.{sources-length, cores-length, source-there, core-there}
+
+module _ (b : List ℕ) where
+  pub source-read : (i : ℕ) → i < maxSources → sourceAt (stateFrom b) i ≡ sourceFrom b (sourcesFrom + sourceSize * i)
+  unfolding stateFrom
+  source-read i h = getD-tabulated maxSources (λ (j : ℕ). sourceFrom b (sourcesFrom + sourceSize * j)) i noSource h
+
+  pub core-read : (k : ℕ) → k < maxCores → coreAt (stateFrom b) k ≡ coreFrom b (coresFrom + coreSize * k)
+  unfolding stateFrom
+  core-read k h = getD-tabulated maxCores (λ (j : ℕ). coreFrom b (coresFrom + coreSize * j)) k noCore h
 
 module _ (s : Controller) (sized : Sized s) where
   abbrev sizes : List ℕ

@@ -41,8 +41,7 @@ returns c =
 deliver-requires : tie.Need-deliver-requires
 deliver-requires c κs =
     let read = c .before .before .before .before .before in
-    let found = read .before .before .least .ensures in
-    (
+    let found = read .before .before .least .ensures in (
       size-is (start read .pre),
       source-fits (start read .pre),
       core-fits (start read .pre) found,
