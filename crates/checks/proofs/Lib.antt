@@ -1,2 +1,3 @@
 -- From the tests that the code makes to those of the definitions.
 pub mod Tests
+pub mod Decided

@@ -2,21 +2,20 @@
 --   core-found, box-names      the core that the keys tell, and what its box names
 --   offer-rests                a request that isn't above it changes nothing
 --   offer-delivers             one that is is delivered there
-use Prim.Native.Nat.{ℕ, suc, _+_, _<_, _≤_}
+use Prim.Native.Nat.{ℕ, _+_, _<_, _≤_}
 use mathlib.Core.Path.{_≡_, refl, sym, ap, ap₂, subst, _∙_}
 use mathlib.Core.List.{List}
 use mathlib.Core.Bool.{true, false}
 use lib.ListN.{length, set, length-set}
 use native.Mathlib.Omega.{arith}
 use Rattle.model.specs.declared.Source.{Source}
-use Rattle.model.specs.declared.MessageBox.{MessageBox}
 use Rattle.model.specs.declared.Core.{Core}
 use Rattle.model.specs.declared.Controller.{Controller}
 use Rattle.model.specs.declared.Answer.{Answer}
 use Rattle.model.specs.Records.{maxSources, maxCores, noCore, sourceAt, coreAt, answer}
 use Rattle.model.specs.Requests.{currentPriority}
 use Rattle.model.specs.Arbitration.{rank, coreKey, least}
-use Rattle.model.specs.WellFormed.{Consistent, Holding}
+use Rattle.model.specs.WellFormed.{Holding}
 use Rattle.model.specs.Settling.{interruptedBy, deliver}
 use Rattle.model.specs.Statements.{deliveredOnce}
 use Rattle.lists.specs.Walks.{walk}

@@ -2,11 +2,11 @@
 --   put-back-stored     the code's place of an id is the definitions'
 --   deliver-stored      from what each call leaves
 --   put-back-is, deliver-is    on the bytes of a state they are those of the state with the request put back, and delivered
-use Prim.Native.Nat.{ℕ, suc, pred, _+_, _-_, _*_, _<_, _≤_}
-use mathlib.Core.Path.{_≡_, refl, sym, ap, _∙_}
+use Prim.Native.Nat.{ℕ, pred, _+_, _-_, _<_, _≤_}
+use mathlib.Core.Path.{_≡_, ap, _∙_}
 use mathlib.Core.List.{List}
 use mathlib.Core.Bool.{true, false}
-use lib.ListN.{length, set, length-set}
+use lib.ListN.{length, length-set}
 use lib.Seq.{sets}
 use native.Mathlib.Omega.{arith}
 use native.Mathlib.Numerals.{add-one, sub-one}
@@ -14,10 +14,10 @@ use Rattle.model.specs.declared.Source.{Source}
 use Rattle.model.specs.declared.MessageBox.{MessageBox}
 use Rattle.model.specs.declared.Core.{Core}
 use Rattle.model.specs.declared.Controller.{Controller}
-use Rattle.model.specs.Records.{maxSources, maxCores, sourceId, indexOf, withDelivered, holding, coreWith, sourceAt, coreAt, withSource, withSources, withCore}
+use Rattle.model.specs.Records.{maxSources, maxCores, sourceId, indexOf, withDelivered, holding, coreWith, sourceAt, coreAt, withSource, withSources}
 use Rattle.model.specs.Settling.{putBack, deliver}
 use Rattle.lists.proofs.Bools.{Flag, on, off, flag}
-use Rattle.layout.specs.Bytes.{sourcesFrom, coresFrom, sourceSize, coreSize, sourceBytes, coreBytes, stateBytes, sourceFrom}
+use Rattle.layout.specs.Bytes.{sourceBytes, coreBytes, stateBytes, sourceFrom}
 use Rattle.layout.specs.Statements.{Sized}
 use Rattle.layout.proofs.InPlace.{source-in-place, source-stored, core-stored}
 use Rattle.in_place.specs.Places.{sourcePlace, corePlace, putBackAt, takenBy, deliverAt}

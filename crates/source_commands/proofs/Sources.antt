@@ -2,14 +2,12 @@
 -- The code reads the source with an id at index id - 1, the definitions at `indexOf id`; it asks `!test(..)`.
 --   Addressed s id          a sound state and one of its sources, as the first two tests find them
 --   claimed-if, unclaimed   whether its request is claimed, by both ways of the code
---   number-is               the number that the code has found is that of the later checks
 --   begins, after-deliveries, at-rest    where it is 0: what the deliveries require, and the answers of both ways
-use Prim.Native.Nat.{ℕ, zero, suc, _-_, _<_, _≤_}
+use Prim.Native.Nat.{ℕ, _-_, _<_, _≤_}
 use mathlib.Core.Path.{_≡_, refl, sym, _∙_}
 use mathlib.Core.Bool.{Bool, true, false, not, _&&_, and-false}
 use lib.ListN.{length}
 use native.Mathlib.Omega.{arith}
-use native.Mathlib.Nat.{not-suc-le-zero}
 use native.Mathlib.Numerals.{sub-one}
 use Rattle.model.specs.declared.SourceId.{SourceId}
 use Rattle.model.specs.declared.Source.{Source}
@@ -17,14 +15,14 @@ use Rattle.model.specs.declared.Controller.{Controller}
 use Rattle.model.specs.declared.Command.the-variants.{OnSource}
 use Rattle.model.specs.declared.SourceAction.{SourceAction}
 use Rattle.model.specs.declared.SourceAction.the-variants.{SetSourcePriority, Mask, Unmask, Trigger, Redeliver, Complete}
-use Rattle.model.specs.Records.{maxSources, maxCores, noSource, sourceId, indexOf, sourceAt, coreAt, withSource, answer}
+use Rattle.model.specs.Records.{maxSources, maxCores, noSource, indexOf, sourceAt, coreAt, withSource, answer}
 use Rattle.model.specs.Requests.{currentPriority, waiting, candidate, boxed, claimed}
 use Rattle.model.specs.WellFormed.{wellFormed, WellFormed, Consistent, NoneAbove}
 use Rattle.model.specs.Commands.{namesSource, sourceAfter, sourceRefusal, effect, refusalOf, answeredId, settled, execute}
 use Rattle.lists.proofs.Exact.{between-exact}
 use Rattle.lists.proofs.Bools.{passing, and-r, clash}
 use Rattle.lists.proofs.Writes.{read-set}
-use Rattle.checks.specs.Refusals.{sourceRefusalBy}
+use Rattle.checks.proofs.Decided.{claimedBy, claimed-at}
 use Rattle.well_formed.proofs.Test.{wellFormed-out}
 use Rattle.settling.specs.declared.Reached.{Reached}
 use Rattle.settling.specs.Phases.{Delivering}
@@ -58,14 +56,6 @@ addressed {s} {id} tests e names g =
 
 -- ---- whether the request is claimed
 
--- the code's test of it
-abbrev pub claimedBy : Controller → ℕ → Bool
-claimedBy s id = (sourceAt s (id - 1)) .pending && (sourceAt s (id - 1)) .delivered && not (boxed (s .cores) (s .m) id)
-
-claimed-at : (s : Controller) (id : ℕ) → 1 ≤ id → claimedBy s id ≡ claimed s (indexOf (sourceId id))
-claimed-at s zero h = absurd (not-suc-le-zero h)
-claimed-at s (suc i) h = rw (sub-one (suc i))
-
 module _ {s : Controller} {id : SourceId} (h : Addressed s id) {taken : Bool} where
   pub claimed-if : taken ≡ claimedBy s (id .0) → taken ≡ claimed s (indexOf id)
   claimed-if is = is ∙ claimed-at s (id .0) (h .some-id)
@@ -76,21 +66,6 @@ module _ {s : Controller} {id : SourceId} (h : Addressed s id) {taken : Bool} wh
     where
       none : (p q : Bool) → false ≡ p && (sourceAt s (id .0 - 1)) .delivered && q
       none p q = rw (e, and-false)
-
--- ---- the later checks
-
-number-by : (s : Controller) (i : ℕ) (a : SourceAction) → sourceRefusalBy (s .n) (sourceAt s i) (claimed s i) a ≡ sourceRefusal s i a
-number-by s i (SetSourcePriority p) = refl
-number-by s i Mask = refl
-number-by s i Unmask = refl
-number-by s i Trigger = refl
-number-by s i Redeliver = refl
-number-by s i Complete = refl
-
-pub number-is : (s : Controller) (id : SourceId) (a : SourceAction) {taken : Bool} → taken ≡ claimed s (indexOf id) →
-    {k : ℕ} → k ≡ sourceRefusalBy (s .n) (sourceAt s (id .0 - 1)) taken a → k ≡ sourceRefusal s (indexOf id) a
-number-is s id a {taken} is e =
-    e ∙ rw (is, sub-one (id .0)) (number-by s (indexOf id) a)
 
 -- ---- an accepted command: the code has written x at the index id - 1
 

@@ -9,7 +9,8 @@ use Rattle.model.specs.Requests.{claimed}
 use Rattle.model.specs.Commands.{sourceRefusal}
 use Rattle.lists.proofs.Bools.{failing, passing}
 use Rattle.effects.proofs.Answers.{at-state, at-name, at-later}
-use Rattle.source_commands.proofs.Sources.{Addressed, addressed, claimed-if, unclaimed, number-is, begins, after-deliveries, at-rest}
+use Rattle.checks.proofs.Decided.{number-is}
+use Rattle.source_commands.proofs.Sources.{Addressed, addressed, claimed-if, unclaimed, begins, after-deliveries, at-rest}
 use borrow.Author.Needs.{needs}
 use Rattle.source_commands.proofs.on_source.Statement.{statement}
 use Rattle.source_commands.proofs.on_source.Tie as tie
