@@ -3,6 +3,7 @@
 --   takenBy c i r            the record of core c once its box holds the request of source i + 1, whose record is r
 --   deliverAt b i r k c      the bytes after that delivery to core k
 --   Offered, AfterOffer      what the offer of one request finds, and what it leaves
+--   Placed, Executed         what a command finds, and what it leaves
 use Prim.Native.Nat.{ℕ, suc, _+_, _*_, _<_}
 use mathlib.Core.Path.{_≡_}
 use mathlib.Core.List.{List}
@@ -13,9 +14,13 @@ use Rattle.lists.specs.Rows.{FilledTo}
 use Rattle.model.specs.declared.Source.{Source}
 use Rattle.model.specs.declared.MessageBox.{MessageBox}
 use Rattle.model.specs.declared.Core.{Core}
+use Rattle.model.specs.declared.Answer.{Answer}
+use Rattle.model.specs.declared.Command.{Command}
+use Rattle.in_place.specs.declared.Outcome.{Outcome}
 use Rattle.model.specs.Records.{maxCores, noCore, sourceId, indexOf, withDelivered, holding, coreWith, sourceAt}
 use Rattle.model.specs.Arbitration.{coreKey}
-use Rattle.model.specs.WellFormed.{Consistent}
+use Rattle.model.specs.WellFormed.{Consistent, WellFormed}
+use Rattle.model.specs.Commands.{execute}
 use Rattle.model.specs.Statements.{deliveredOnce}
 use Rattle.layout.specs.Bytes.{sourceSize, coreSize, sourcesFrom, coresFrom, sourceBytes, coreBytes, stateBytes, sourceFrom, stateFrom}
 
@@ -56,3 +61,24 @@ pub record AfterOffer (b : List ℕ) (i x : ℕ) (b′ keys′ : List ℕ) : Typ
   pub cycles-are : x ≡ (deliveredOnce (stateFrom b) i) .cycles
   pub keyed : FilledTo coreKey noCore ((deliveredOnce (stateFrom b) i) .state .cores) ((stateFrom b) .m) keys′
   pub keys-length : length keys′ ≡ maxCores
+
+-- ---- a command
+
+-- The bytes b are those of a sound state, with its cores' keys.
+pub record Placed (b keys : List ℕ) : Type 0 where
+  pub whole : b ≡ stateBytes (stateFrom b)
+  pub sound : WellFormed (stateFrom b)
+  pub keyed : FilledTo coreKey noCore ((stateFrom b) .cores) ((stateFrom b) .m) keys
+  pub keys-length : length keys ≡ maxCores
+
+-- Number, id and cycles are those of the answer a, the bytes those of its state, and the keys its cores'.
+pub record Leaves (a : Answer) (r : Outcome) (m : ℕ) (b′ keys′ : List ℕ) : Type 0 where
+  pub number-is : r .number ≡ a .number
+  pub id-is : r .id .0 ≡ a .id .0
+  pub cycles-are : r .cycles ≡ a .cycles
+  pub bytes-are : b′ ≡ stateBytes (a .state)
+  pub keyed : FilledTo coreKey noCore (a .state .cores) m keys′
+  pub keys-length : length keys′ ≡ maxCores
+
+abbrev pub Executed : List ℕ → Command → Outcome → List ℕ → List ℕ → Type 0
+Executed b c r b′ keys′ = Leaves (execute (stateFrom b) c) r ((stateFrom b) .m) b′ keys′

@@ -1,17 +1,33 @@
 // Commands on a sound state that lies in a host's bytes: the records that change are read, made anew, and written back where they lie.
 ghost use Prim.Native.Nat.{_<_, _≤_};
 ghost use mathlib.Core.Path.{_≡_};
-ghost use mathlib.Core.Bool.{true};
+ghost use mathlib.Core.Bool.{true, not, _&&_};
 ghost use lib.ListN.{length, set};
 ghost use Rattle.model.specs.Records.{maxSources, maxCores};
 ghost use Rattle.model.specs.Arbitration.{coreKey};
 ghost use Rattle.model.specs.Requests.{boxed as boxedIn};
 ghost use Rattle.layout.specs.Bytes.{stateSize, stateFrom};
-ghost use Rattle.in_place.specs.Places.{putBackAt, deliverAt, takenBy, Offered, AfterOffer};
+ghost use Rattle.in_place.specs.Places.{putBackAt, deliverAt, takenBy, Offered, AfterOffer, Placed, Executed};
+use checks::numbers::BAD_SOURCE;
 use model::CORES;
+use model::Command;
 use model::Core;
 use model::Source;
+use model::SourceAction;
 use model::SourceId;
+
+// What a command answers besides the state: document 01's number, the claimed id, and the cycles.
+pub struct Outcome {
+    pub number: u8,
+    pub id: SourceId,
+    pub cycles: u16,
+}
+
+fn answered(number: u8, id: SourceId, cycles: u16) -> Outcome
+    ensures { λ r. ⌜ (r .number ≡ number) × (r .id .0 ≡ id .0) × (r .cycles ≡ cycles) ⌝ }
+{
+    Outcome { number, id, cycles }
+}
 
 // The request in the box of core record c, if there is one, goes back to waiting.
 fn put_back(state: &mut [u8], c: Core)
@@ -71,4 +87,46 @@ fn boxed(state: &[u8], m: usize, id: SourceId) -> bool
         k += 1;
     }
     false
+}
+
+// Whether the request of a source, whose record is r, is claimed: pending, delivered, and in no box.
+fn is_claimed(state: &[u8], m: usize, id: SourceId, r: Source) -> bool
+    requires { ⌜ (length (now state) ≡ stateSize) × (m ≤ maxCores) ⌝ }
+    ensures { λ x. ⌜ x ≡ r .pending && r .delivered && not (boxedIn ((stateFrom (now (state .entry))) .cores) m (id .0)) ⌝ }
+{
+    if !r.pending {
+        return false;
+    }
+    if !r.delivered {
+        return false;
+    }
+    !boxed(state, m, id)
+}
+
+// A command on a source: decided by its record, then stored.
+pub fn on_source(
+    state: &mut [u8],
+    keys: &mut [u32; CORES],
+    id: SourceId,
+    a: SourceAction,
+) -> Outcome
+    requires { ⌜ Placed (now state) (now keys) ⌝ }
+    ensures { λ r. ⌜ Executed (now (state .entry)) (Command.OnSource id a) r (now (state .exit)) (now (keys .exit)) ⌝ }
+{
+    let n = decoding::word_at(state, 0);
+    if !checks::names_source(n, id) {
+        return answered(BAD_SOURCE, SourceId(0), 0);
+    }
+    let i = id.0 as usize - 1;
+    let m = decoding::word_at(state, 2) as usize;
+    let r = decoding::source_at(state, i);
+    let claimed = is_claimed(state, m, id, r);
+    let number = checks::source_refusal(n, r, claimed, a);
+    if number != 0 {
+        return answered(number, SourceId(0), 0);
+    }
+    let next = records::source_after(a, r);
+    encoding::put_source_at(state, i, next);
+    let cycles = offer(state, keys, m, i, next);
+    answered(0, SourceId(0), cycles)
 }

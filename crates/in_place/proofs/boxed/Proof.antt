@@ -58,11 +58,10 @@ loop-again c =
     let a = turn .before .before .before .args in
     let unheld : holds (a .id .0) (read .core-at .result) ≡ false =
     ⊎-elim (λ w. holds-other (read .core-at .result) (a .id .0) (w .0 .taken) (w .3 .left))
-    (λ w. holds-unfilled (read .core-at .result) (a .id .0) (w .left)) (c .if1 .came) in
-    (
+    (λ w. holds-unfilled (read .core-at .result) (a .id .0) (w .left)) (c .if1 .came) in (
       omega (arith, turn .loop-test .taken),
       unboxed-more ((stateFrom (a .state .now)) .cores) (turn .before .loop .k) (a .id .0) (turn .before .loop .inv .1)
-      (sym (ap (holds (a .id .0)) (at-turn read)) ∙ unheld),
+          (sym (ap (holds (a .id .0)) (at-turn read)) ∙ unheld),
     )
 
 returns-2 : tie.Need-returns-2 Inv-loop μ-loop
