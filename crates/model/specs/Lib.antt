@@ -1,7 +1,6 @@
--- Every definition that a reader of this project must believe, in the order of document 01.
---   Records       the records, their blank and reset values, and every record literal of the project
+-- Every definition of the controller that a reader must believe, in the order of document 01.
+--   Records       the records, their blank and reset values, and every record literal of them
 --   Priorities    the width of the priority field and the top priority
---   Walks         "for each", "for some", and the first winner of a row, as a walk and as the comparator tree
 --   Requests      current priority, waiting, candidate, claimed, owner
 --   Arbitration   the highest candidate and the least core
 --   WellFormed    the sound-state test, clause by clause, and the same as a proposition
