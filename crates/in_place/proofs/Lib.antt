@@ -2,3 +2,4 @@
 pub mod Stored
 pub mod Offering
 pub mod Sourced
+pub mod Claimed

@@ -8,10 +8,14 @@ ghost use Rattle.model.specs.Arbitration.{coreKey};
 ghost use Rattle.model.specs.Requests.{boxed as boxedIn};
 ghost use Rattle.layout.specs.Bytes.{stateSize, stateFrom};
 ghost use Rattle.in_place.specs.Places.{putBackAt, deliverAt, takenBy, Offered, AfterOffer, Placed, Executed};
+use checks::numbers::BAD_CORE;
 use checks::numbers::BAD_SOURCE;
+use checks::numbers::NOTHING_TO_CLAIM;
 use model::CORES;
 use model::Command;
 use model::Core;
+use model::CoreAction;
+use model::CoreId;
 use model::Source;
 use model::SourceAction;
 use model::SourceId;
@@ -129,4 +133,25 @@ pub fn on_source(
     encoding::put_source_at(state, i, next);
     let cycles = offer(state, keys, m, i, next);
     answered(0, SourceId(0), cycles)
+}
+
+// A claim on a core: the box is emptied, and the core rises to the request's priority. Nothing is left to settle.
+pub fn claim(state: &mut [u8], keys: &mut [u32; CORES], core: CoreId) -> Outcome
+    requires { ⌜ Placed (now state) (now keys) ⌝ }
+    ensures { λ r. ⌜ Executed (now (state .entry)) (Command.OnCore core CoreAction.Claim) r (now (state .exit)) (now (keys .exit)) ⌝ }
+{
+    let m = decoding::word_at(state, 2);
+    if !checks::names_core(m, core) {
+        return answered(BAD_CORE, SourceId(0), 0);
+    }
+    let k = core.0 as usize;
+    let c = decoding::core_at(state, k);
+    if !c.message.filled {
+        return answered(NOTHING_TO_CLAIM, SourceId(0), 0);
+    }
+    let id = c.message.source;
+    let next = records::claimed_core(c);
+    encoding::put_core_at(state, k, next);
+    keys[k] = records::core_key(next);
+    answered(0, id, 0)
 }
