@@ -61,7 +61,7 @@ fn look(
 
 // The first highest of the first n keys, whose marks are lent: what the comparator tree over them answers, so index 0 if there is no
 // candidate. Counted are the ranges of that tree that hold a candidate.
-pub fn highest(keys: &[u32; SOURCES], marks: &[u16; MARKS], n: usize) -> Looked
+pub fn find(keys: &[u32; SOURCES], marks: &[u16; MARKS], n: usize) -> Looked
     requires { ⌜ (n ≤ maxSources) × MarksOf (now keys) n (now marks) ⌝ }
     ensures { λ r. ⌜ Searched (now (keys .entry)) n r ⌝ }
 {
