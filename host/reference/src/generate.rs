@@ -26,6 +26,8 @@ pub enum Mix {
     Even,
     /// Sources are unmasked first, and the kinds are weighed so that boxes stay filled.
     Busy,
+    /// Sources are unmasked first, and requests come and go: what is triggered is claimed, and what is claimed ends.
+    Turnover,
 }
 
 /// Makes a history. About one command in eight is refused: an argument out of range, or a command
@@ -187,6 +189,36 @@ const BUSY: [Kind; 16] = [
     Kind::Complete,
 ];
 
+/// As many claims as completes and redelivers, so that requests don't pile up, and as many settings of a core.
+const TURNOVER: [Kind; 26] = [
+    Kind::SetSourcePriority,
+    Kind::SetSourcePriority,
+    Kind::Mask,
+    Kind::Mask,
+    Kind::Unmask,
+    Kind::Unmask,
+    Kind::Unmask,
+    Kind::SetCorePriority,
+    Kind::SetCorePriority,
+    Kind::SetCorePriority,
+    Kind::SetCorePriority,
+    Kind::Trigger,
+    Kind::Trigger,
+    Kind::Trigger,
+    Kind::Trigger,
+    Kind::Claim,
+    Kind::Claim,
+    Kind::Claim,
+    Kind::Claim,
+    Kind::Claim,
+    Kind::Redeliver,
+    Kind::Redeliver,
+    Kind::Complete,
+    Kind::Complete,
+    Kind::Complete,
+    Kind::Complete,
+];
+
 /// Draws commands with the reference model's state at hand, so that most of them are accepted.
 struct Generator {
     random: Random,
@@ -203,7 +235,7 @@ impl Generator {
         let mut random = Random::new(seed);
         let palette = palette(&mut random, top_priority(n));
         let mut opening = Vec::new();
-        if mix == Mix::Busy {
+        if mix != Mix::Even {
             for id in (1..=n).map(SourceId).filter(|_| !random.one_in(8)) {
                 opening.push(Command::Unmask(id));
             }
@@ -234,6 +266,7 @@ impl Generator {
             let kind = match self.mix {
                 Mix::Even => self.random.pick(&EVEN),
                 Mix::Busy => self.random.pick(&BUSY),
+                Mix::Turnover => self.random.pick(&TURNOVER),
             };
             if let Some(command) = self.fitting(kind) {
                 return command;
