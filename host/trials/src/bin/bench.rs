@@ -10,6 +10,7 @@
 //! of the states handed back. Everything that a section needs is made before.
 
 use std::path::Path;
+use std::thread;
 use std::time::Instant;
 
 use psic::recording::MAX_COMMANDS;
@@ -29,6 +30,12 @@ const LENGTHS: [usize; 6] = [1, 4, 16, 64, 256, 1024];
 
 fn main() {
     let words: Vec<String> = std::env::args().skip(1).collect();
+    // What a copy takes depends on where the stack begins, and that of the first thread on the words and the environment.
+    let run = thread::spawn(move || run(&words));
+    run.join().expect("the run ends well");
+}
+
+fn run(words: &[String]) {
     let words: Vec<&str> = words.iter().map(String::as_str).collect();
     match words.as_slice() {
         ["shares", n, m, count, seed] => {
