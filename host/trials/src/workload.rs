@@ -115,7 +115,7 @@ fn values(kind: Mostly, random: &mut Random, command: Command) -> [String; 4] {
         _ => format!("{:b}", if used { value } else { 0 }),
     };
     [
-        bits(true, number.into()),
+        bits(true, number),
         bits(for_core, at % 32),
         bits(!for_core, at % 256),
         bits(with_priority, priority % 512),
