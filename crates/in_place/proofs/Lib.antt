@@ -3,3 +3,4 @@ pub mod Stored
 pub mod Offering
 pub mod Sourced
 pub mod Claimed
+pub mod Retracted

@@ -91,8 +91,7 @@ returns-4 : tie.Need-returns-4 Inv-loop μ-loop Inv-loop2 μ-loop2
 returns-4 c =
     let l = c .before .loop2 in
     all-flagged (c .before .before .before .before .before .before .args .b .now) (c .before .before .before .loop .passed)
-    (l .cores-passed)
-    (l .inv) (c .before .before .loop-test .left) (c .loop2-test .left)
+    (l .cores-passed) (l .inv) (c .before .before .loop-test .left) (c .loop2-test .left)
 
 pub is-state-spec : {M : Type 1} → statement M
 is-state-spec =
