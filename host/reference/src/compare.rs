@@ -167,10 +167,13 @@ impl<L: Model, R: Model> Comparison<'_, L, R> {
 
     /// Runs a history from a fresh controller as one list.
     pub fn list(&self, history: &History) -> Option<Difference> {
-        let History { n, m, .. } = *history;
-        let part = &format!("list at n = {n}, m = {m}");
-        let fresh = Controller::reset(n, m);
-        self.run(Place { part, index: 0 }, &fresh, &history.commands)
+        self.list_from(&Controller::reset(history.n, history.m), &history.commands)
+    }
+
+    /// Runs one list from a state, sound or not.
+    pub fn list_from(&self, state: &Controller, commands: &[Command]) -> Option<Difference> {
+        let part = &format!("list at n = {}, m = {}", state.n, state.m);
+        self.run(Place { part, index: 0 }, state, commands)
     }
 
     /// Puts one command of each kind, and all of them as a list, to broken states made from a sound one.

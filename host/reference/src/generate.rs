@@ -31,11 +31,14 @@ pub enum Mix {
     /// As busy, and most commands are steps to a tie between a filled and an empty box, and to a
     /// request that the tie decides about.
     Tied,
+    /// Sources are unmasked first, and requests come and go: what is triggered is claimed, and what
+    /// is claimed ends.
+    Turnover,
 }
 
 impl Mix {
     /// All mixes.
-    pub const ALL: [Mix; 3] = [Mix::Even, Mix::Busy, Mix::Tied];
+    pub const ALL: [Mix; 4] = [Mix::Even, Mix::Busy, Mix::Tied, Mix::Turnover];
 }
 
 /// Makes a history. About one command in eight is refused: an argument out of range, or a command
@@ -197,6 +200,36 @@ const BUSY: [Kind; 16] = [
     Kind::Complete,
 ];
 
+/// As many claims as completes and redelivers, so that requests don't pile up, and as many settings of a core.
+const TURNOVER: [Kind; 26] = [
+    Kind::SetSourcePriority,
+    Kind::SetSourcePriority,
+    Kind::Mask,
+    Kind::Mask,
+    Kind::Unmask,
+    Kind::Unmask,
+    Kind::Unmask,
+    Kind::SetCorePriority,
+    Kind::SetCorePriority,
+    Kind::SetCorePriority,
+    Kind::SetCorePriority,
+    Kind::Trigger,
+    Kind::Trigger,
+    Kind::Trigger,
+    Kind::Trigger,
+    Kind::Claim,
+    Kind::Claim,
+    Kind::Claim,
+    Kind::Claim,
+    Kind::Claim,
+    Kind::Redeliver,
+    Kind::Redeliver,
+    Kind::Complete,
+    Kind::Complete,
+    Kind::Complete,
+    Kind::Complete,
+];
+
 /// Draws commands with the reference model's state at hand, so that most of them are accepted.
 struct Generator {
     random: Random,
@@ -249,6 +282,7 @@ impl Generator {
             let kind = match self.mix {
                 Mix::Even => self.random.pick(&EVEN),
                 Mix::Busy | Mix::Tied => self.random.pick(&BUSY),
+                Mix::Turnover => self.random.pick(&TURNOVER),
             };
             if let Some(command) = self.fitting(kind) {
                 return command;

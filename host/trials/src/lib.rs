@@ -4,10 +4,12 @@
 //! - [`wrapper`] does the same with the typed wrapper.
 //! - [`recordings`] reads and replays texts by both.
 //! - [`fast`] is the model that the library's speed is compared with.
+//! - [`peer`] is the fastest one that plain Rust offers.
 //! - [`workload`] makes the benchmark's commands.
 
 pub mod fast;
 pub mod library;
+pub mod peer;
 pub mod recordings;
 pub mod workload;
 pub mod wrapper;

@@ -2,7 +2,9 @@
 
 use psic::{raw, ANSWER_SIZE, STATE_SIZE};
 use psic_reference::model::Model;
-use psic_reference::records::{Answer, Command, Controller, Core, MessageBox, Source};
+use psic_reference::records::{
+    Answer, Command, Controller, Core, CoreNumber, MessageBox, Source, SourceId,
+};
 
 const SOURCES_FROM: usize = 4;
 const SOURCE_SIZE: usize = 7;
@@ -91,6 +93,22 @@ pub fn encoded(command: Command) -> [u8; 5] {
     [number as u8, a, b, c, d]
 }
 
+/// The command of these bytes, of which the first is at most 7.
+pub fn command_of(bytes: &[u8]) -> Command {
+    let at = u16::from_le_bytes([bytes[1], bytes[2]]);
+    let p = u16::from_le_bytes([bytes[3], bytes[4]]);
+    match bytes[0] {
+        0 => Command::SetSourcePriority(SourceId(at), p),
+        1 => Command::Mask(SourceId(at)),
+        2 => Command::Unmask(SourceId(at)),
+        3 => Command::SetCorePriority(CoreNumber(at), p),
+        4 => Command::Trigger(SourceId(at)),
+        5 => Command::Claim(CoreNumber(at)),
+        6 => Command::Redeliver(SourceId(at)),
+        _ => Command::Complete(SourceId(at)),
+    }
+}
+
 /// A state's bytes, as docs/ENCODING.md lays them out.
 pub fn bytes_of(controller: &Controller) -> Vec<u8> {
     let mut bytes = Vec::with_capacity(STATE_SIZE);
@@ -153,6 +171,12 @@ pub fn answer_of(bytes: &[u8]) -> Answer {
         id: u16::from_le_bytes([bytes[1], bytes[2]]),
         cycles: u16::from_le_bytes([bytes[3], bytes[4]]),
     }
+}
+
+/// An answer's bytes.
+pub fn answer_bytes(answer: Answer) -> [u8; ANSWER_SIZE] {
+    let ([a, b], [c, d]) = (answer.id.to_le_bytes(), answer.cycles.to_le_bytes());
+    [answer.number, a, b, c, d]
 }
 
 /// A source record in the wrapper's form.

@@ -1,6 +1,7 @@
 //! The proved library, and the typed wrapper over it, do what the independent model does: call by call, in whole lists, from sound and
 //! broken states, and on lent records.
 
+mod peer;
 mod recordings;
 mod slips;
 

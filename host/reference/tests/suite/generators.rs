@@ -140,6 +140,25 @@ fn ties_of_filled_and_empty_boxes_occur_in_all_mixes() {
     }
 }
 
+#[test]
+fn turnover_histories_accept_and_refuse_every_command() {
+    for (n, m) in [(1, 1), (8, 1), (32, 2), (128, 4), (128, 32)] {
+        let (mut accepted, mut refused) = ([0; 8], [0; 8]);
+        let history = history(run_seed(), n, m, 10_000, Mix::Turnover);
+        for_each_step(&history, |_, step| {
+            let counts = match step.answer.number {
+                0 => &mut accepted,
+                _ => &mut refused,
+            };
+            counts[kind(step.command)] += 1;
+        });
+        let place = format!("n = {n}, m = {m}: {accepted:?} accepted, {refused:?} refused");
+        println!("{place}");
+        assert!(accepted.iter().all(|&count| count >= 200), "{place}");
+        assert!(refused.iter().all(|&count| count >= 50), "{place}");
+    }
+}
+
 fn kind(command: Command) -> usize {
     match command {
         Command::SetSourcePriority(..) => 0,
