@@ -1,6 +1,7 @@
 // The highest key of a range by the comparator tree, and the least of a row: what arbitration looks for, over lent numbers.
 // Calls for the crates above, which know that the range lies inside the array.
 pub mod marks;
+pub mod places;
 pub mod search;
 
 ghost use Prim.Native.Nat.{_+_, _≤_};

@@ -52,7 +52,7 @@ module _ {s : Controller} {i k : ℕ} (a : Arbitrated s i k) {ks cs : List ℕ} 
         record {
           state-is = rw (sub-one, filled);
           ranks =
-              filled-written rank noSource (s .sources) (s .n) ks (keyed .ranks) old (withDelivered false (sourceAt s old)) v
+              filled-written (λ i. rank) noSource (s .sources) (s .n) ks (keyed .ranks) old (withDelivered false (sourceAt s old)) v
               (omega (arith, old-in, a .consistent .sources-length)) (omega (arith, old-in, keyed .ranks-length)) e;
           ranks-length = length-set ks old v ∙ keyed .ranks-length;
         }
@@ -90,12 +90,12 @@ module _ {s : Controller} {i k : ℕ} (a : Arbitrated s i k) {ks cs : List ℕ} 
       keyed-delivered v is =
           record {
             ranks =
-                filled-written rank noSource (putBack ((coreAt s k) .message) (s .sources)) (s .n) ks₁ (rw (b .state-is) at (b .ranks))
+                filled-written (λ i. rank) noSource (putBack ((coreAt s k) .message) (s .sources)) (s .n) ks₁ (rw (b .state-is) at (b .ranks))
                 i (withDelivered true (sourceAt s i)) 0
                 (rw length-putBack (index-in a)) (omega (arith, b .ranks-length, a .won .source-in, a .consistent .n-le))
                 (rank-delivered (sourceAt s i));
             cores =
-                filled-written coreKey noCore (s .cores) (s .m) cs (keyed .cores) k (delivered-to s i k) v
+                filled-written (λ i. coreKey) noCore (s .cores) (s .m) cs (keyed .cores) k (delivered-to s i k) v
                 (number-in a) (omega (arith, keyed .cores-length, a .won .core-in, a .consistent .m-le)) (is ∙ ap coreKey core-is);
             ranks-length = length-set ks₁ i 0 ∙ b .ranks-length;
             cores-length = length-set cs k v ∙ keyed .cores-length;

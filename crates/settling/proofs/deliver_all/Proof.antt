@@ -16,13 +16,13 @@ use Rattle.settling.proofs.deliver_all.Statement.{statement}
 use Rattle.settling.proofs.deliver_all.Tie as tie
 
 abbrev Inv-loop : tie.InvT-loop
-Inv-loop spent s n m keys₀ i₀ keys i = Filling rank noSource (s .sources) maxSources i keys
+Inv-loop spent s n m keys₀ i₀ keys i = Filling (λ i. rank) noSource (s .sources) maxSources i keys
 
 abbrev μ-loop : tie.MeasureT-loop
 μ-loop spent s n m keys₀ i₀ keys i = n - i
 
 abbrev Inv-loop2 : tie.InvT-loop2
-Inv-loop2 spent s n m keys i core-keys₀ j₀ core-keys j = Filling coreKey noCore (s .cores) maxCores j core-keys
+Inv-loop2 spent s n m keys i core-keys₀ j₀ core-keys j = Filling (λ i. coreKey) noCore (s .cores) maxCores j core-keys
 
 abbrev μ-loop2 : tie.MeasureT-loop2
 μ-loop2 spent s n m keys i core-keys₀ j₀ core-keys j = m - j
@@ -40,7 +40,7 @@ cast-m : tie.Need-cast-m Inv-loop μ-loop Inv-loop2 μ-loop2 Inv-loop3 μ-loop3
 cast-m c = search needs
 
 loop-holds : tie.Need-loop-holds Inv-loop μ-loop Inv-loop2 μ-loop2 Inv-loop3 μ-loop3
-loop-holds c = filling-none rank noSource _ maxSources
+loop-holds c = filling-none (λ i. rank) noSource _ maxSources
 
 mul-rank : tie.Need-mul-rank Inv-loop μ-loop Inv-loop2 μ-loop2 Inv-loop3 μ-loop3
 mul-rank c = search needs
@@ -66,10 +66,10 @@ loop-less c = search needs
 
 loop-again : tie.Need-loop-again Inv-loop μ-loop Inv-loop2 μ-loop2 Inv-loop3 μ-loop3
 loop-again c =
-    filling-more rank noSource _ (c .before .before .before .loop .inv) (array-write-keys c) (c .rank .result) (c .rank .ensures)
+    filling-more (λ i. rank) noSource _ (c .before .before .before .loop .inv) (array-write-keys c) (c .rank .result) (c .rank .ensures)
 
 loop2-holds : tie.Need-loop2-holds Inv-loop μ-loop Inv-loop2 μ-loop2 Inv-loop3 μ-loop3
-loop2-holds c = filling-none coreKey noCore _ maxCores
+loop2-holds c = filling-none (λ i. coreKey) noCore _ maxCores
 
 mul-core-key : tie.Need-mul-core-key Inv-loop μ-loop Inv-loop2 μ-loop2 Inv-loop3 μ-loop3
 mul-core-key c = search needs
@@ -95,7 +95,7 @@ loop2-less c = search needs
 
 loop2-again : tie.Need-loop2-again Inv-loop μ-loop Inv-loop2 μ-loop2 Inv-loop3 μ-loop3
 loop2-again c =
-    filling-more coreKey noCore _ (c .before .before .before .loop2 .inv) (array-write-core-keys c)
+    filling-more (λ i. coreKey) noCore _ (c .before .before .before .loop2 .inv) (array-write-core-keys c)
     (c .core-key .result) (c .core-key .ensures)
 
 loop3-holds : tie.Need-loop3-holds Inv-loop μ-loop Inv-loop2 μ-loop2 Inv-loop3 μ-loop3
