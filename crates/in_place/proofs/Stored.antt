@@ -1,5 +1,7 @@
 -- What is held after each store: bytes and numbers stay those of a state. Assumes nothing.
+--   held-back, held-here              the state that is held is the one that is read
 --   held-source, held-core            one record stored, with its number
+--   read-source, read-core            one record read
 --   back-empty, back-filled           a request put back
 --   held-retracted, held-delivered    a retraction and a delivery
 use Prim.Native.Nat.{ℕ, suc, _+_, _-_, _<_}
@@ -18,12 +20,23 @@ use Rattle.model.specs.Records.{maxSources, maxCores, noSource, noCore, sourceI
 use Rattle.model.specs.Settling.{putBack, retract, deliver}
 use Rattle.lists.proofs.Filling.{filled-written}
 use Rattle.arbitration.specs.Places.{keyAt, rankAt}
-use Rattle.layout.specs.Bytes.{sourceBytes, coreBytes, stateBytes, sourceFrom}
+use Rattle.layout.specs.Bytes.{sourceBytes, coreBytes, stateBytes, stateSize, sourceFrom, coreFrom, stateFrom}
 use Rattle.layout.specs.Statements.{Sized}
-use Rattle.layout.proofs.InPlace.{source-in-place, source-stored, core-stored}
+use Rattle.layout.proofs.InPlace.{source-in-place, core-in-place, source-stored, core-stored}
+use Rattle.layout.proofs.RoundTrip.{state-length, state-read-back}
 use Rattle.in_place.specs.Held.{sourcePlace, corePlace, Held, Names, PutsBack}
 
 module _ {s : Controller} {b keys ranks : List ℕ} (h : Held s b keys ranks) where
+  -- the state that is held is the one that is read
+  pub held-back : stateFrom b ≡ s
+  held-back = ap stateFrom (h .bytes-are) ∙ state-read-back s (h .sized)
+
+  pub held-here : Held (stateFrom b) b keys ranks
+  held-here = subst (λ (u : Controller). Held u b keys ranks) (sym held-back) h
+
+  pub held-length : length b ≡ stateSize
+  held-length = ap length (h .bytes-are) ∙ state-length s (h .sized)
+
   -- one record, and its number
   pub held-source :
       (i : ℕ) → i < maxSources → (r : Source) {b′ ranks′ : List ℕ} → b′ ≡ sets b (sourcePlace i) (sourceBytes r) →
@@ -67,6 +80,9 @@ module _ {s : Controller} {b keys ranks : List ℕ} (h : Held s b keys ranks) wh
 
   pub read-source : (i : ℕ) → i < maxSources → sourceFrom b (sourcePlace i) ≡ sourceAt s i
   read-source i i-lt = ap (λ (l : List ℕ). sourceFrom l (sourcePlace i)) (h .bytes-are) ∙ source-in-place s (h .sized) i i-lt
+
+  pub read-core : (k : ℕ) → k < maxCores → coreFrom b (corePlace k) ≡ coreAt s k
+  read-core k k-lt = ap (λ (l : List ℕ). coreFrom l (corePlace k)) (h .bytes-are) ∙ core-in-place s (h .sized) k k-lt
 
   -- a request put back
   pub back-empty : (box : MessageBox) → box .filled ≡ false → Held (withSources s (putBack box (s .sources))) b keys ranks

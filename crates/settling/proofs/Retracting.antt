@@ -87,7 +87,7 @@ module _ (s state : Controller) (cycles k : ℕ) (r : Retracting s state cycles 
     emptied-clean : (j : ℕ) → j < k → (coreAt (retract state k) j) .message .dirty ≡ false
     emptied-clean j p = rw (core-retract-other state k j (omega arith)) (r .clean j p)
 
-    retracted : Retracting s (retract state k) (cycles + 1) (k + 1)
+    pub retracted : Retracting s (retract state k) (cycles + 1) (k + 1)
     retracted =
         record {
           ran = ran-more (r .ran) (Retract (coreId k)) (next-retract state k core-in (r .clean) dirty) refl;

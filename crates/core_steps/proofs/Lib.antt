@@ -1,0 +1,3 @@
+-- From what the code reads and stores to the answer of the definition.
+mod Retracted
+mod Deliveries
