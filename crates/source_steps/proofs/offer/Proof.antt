@@ -1,4 +1,5 @@
 -- `source_steps::offer` meets its contract: the two numbers tell whether the definition delivers. Assumes nothing.
+use native.Mathlib.Omega.{arith}
 use borrow.Author.Needs.{needs}
 use Rattle.source_steps.proofs.Offering.{held-length, core-fits, names-one, offer-rests, offer-delivers}
 use Rattle.source_steps.proofs.offer.Statement.{statement}
@@ -27,7 +28,7 @@ returns c =
     let asked = c .before .before in
     let lowest = asked .before .before .before in
     offer-rests (lowest .before .before .before .pre) (lowest .lowest .ensures) (asked .before .priority-of .ensures)
-    (asked .current-of .ensures) (c .before .if1 .taken) (c .answered .ensures)
+    (asked .current-of .ensures) (omega (arith, c .before .if1 .taken)) (c .answered .ensures)
 
 core-of-requires : tie.Need-core-of-requires
 core-of-requires c κs = search needs
@@ -65,8 +66,8 @@ returns-2 c =
     let above = found .before in
     let lowest = above .before .before .before .before in
     offer-delivers (lowest .before .before .before .pre) (lowest .lowest .ensures) (found .core-of .ensures) (read .core-at .ensures)
-    (above .before .before .priority-of .ensures) (above .before .current-of .ensures) (above .if1 .left) (delivered .deliver .ensures)
-    (c .answered2 .ensures)
+    (above .before .before .priority-of .ensures) (above .before .current-of .ensures) (omega (arith, above .if1 .left))
+    (delivered .deliver .ensures) (c .answered2 .ensures)
 
 pub offer-spec : {M : Type 1} → statement M
 offer-spec =

@@ -90,7 +90,7 @@ same-length-2 c = search needs
 returns-2 : tie.Need-returns-2
 returns-2 c =
     let asked = c .before .before in
-    refused-later (start (passed asked) .pre) (found asked) (c .before .if2 .taken) (c .answered2 .ensures)
+    refused-later (start (passed asked) .pre) (found asked) (λ e. absurd (omega (arith, c .before .if2 .taken))) (c .answered2 .ensures)
 
 source-after-requires : tie.Need-source-after-requires
 source-after-requires c κs = search needs
@@ -104,7 +104,7 @@ offer-requires c κs =
     let stored = c .before .before .before .before .before in
     let made = stored .before .before .before in
     let asked = made .before .before in
-    offered (start (passed asked) .pre) (found asked) (made .before .if2 .left) (made .source-after .ensures)
+    offered (start (passed asked) .pre) (found asked) (omega (arith, made .before .if2 .left)) (made .source-after .ensures)
     (stored .put-source .ensures)
 
 same-length-3 : tie.Need-same-length-3
@@ -116,7 +116,7 @@ returns-3 c =
     let stored = done .before .before .before .before .before .before in
     let made = stored .before .before .before in
     let asked = made .before .before in
-    accepted (start (passed asked) .pre) (found asked) (made .before .if2 .left) (made .source-after .ensures)
+    accepted (start (passed asked) .pre) (found asked) (omega (arith, made .before .if2 .left)) (made .source-after .ensures)
     (stored .put-source .ensures) (done .offer .ensures)
 
 pub on-source-spec : {M : Type 1} → statement M
