@@ -1,6 +1,3 @@
--- What the code stores, from what each call leaves; and that it is what the definitions say.
-pub mod Stored
+-- What the code reads and stores, and that it is what the definitions say.
 pub mod Offering
 pub mod Sourced
-pub mod Claimed
-pub mod Retracted

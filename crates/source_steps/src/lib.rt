@@ -1,38 +1,48 @@
-// Commands on a sound state that lies in a host's bytes: the records that change are read, made anew, and written back where they lie.
-ghost use Prim.Native.Nat.{_<_, _≤_};
+// Commands on a source, on the bytes of a sound state: its record is read, made anew, and written back where it lies, and its request is
+// offered to the least core.
+ghost use Prim.Native.Nat.{_≤_};
 ghost use mathlib.Core.Path.{_≡_};
-ghost use mathlib.Core.Bool.{true, not, _&&_};
-ghost use lib.ListN.{length, set};
-ghost use Rattle.model.specs.Records.{maxSources, maxCores};
-ghost use Rattle.model.specs.Arbitration.{coreKey};
+ghost use mathlib.Core.Bool.{not, _&&_};
+ghost use lib.ListN.{length};
+ghost use Rattle.model.specs.Records.{maxCores};
 ghost use Rattle.model.specs.Requests.{boxed as boxedIn};
+ghost use Rattle.model.specs.Statements.{deliveredOnce};
 ghost use Rattle.layout.specs.Bytes.{stateSize, stateFrom};
-ghost use Rattle.in_place.specs.Places.{putBackAt, deliverAt, takenBy, Offered, AfterOffer, Placed, Executed};
-use checks::numbers::BAD_CORE;
+ghost use Rattle.in_place.specs.Steps.{Ready, Leaves, Executed};
+ghost use Rattle.source_steps.specs.Offers.{Offered};
+use arbitration::places;
 use checks::numbers::BAD_SOURCE;
-use checks::numbers::NOTHING_TO_CLAIM;
+use in_place::Outcome;
+use in_place::answered;
 use model::CORES;
 use model::Command;
-use model::Core;
-use model::CoreAction;
-use model::CoreId;
+use model::SOURCES;
 use model::Source;
 use model::SourceAction;
 use model::SourceId;
 
-// The request of source i + 1, whose record is r, goes to the least of m cores, if it is a candidate and strictly above it. The cycles are
-// answered: one for a delivery, else none.
-fn offer(state: &mut [u8], keys: &mut [u32; CORES], m: usize, i: usize, r: Source) -> u16
-    requires { ⌜ Offered (now state) (now keys) m i r ⌝ }
-    ensures { λ x. ⌜ AfterOffer (now (state .entry)) i x (now (state .exit)) (now (keys .exit)) ⌝ }
+// The request of source i + 1, whose record is r, goes to the least of m cores, if it is a candidate and strictly above it. A delivery is
+// one cycle.
+fn offer(
+    state: &mut [u8],
+    keys: &mut [u32; CORES],
+    ranks: &mut [u32; SOURCES],
+    m: usize,
+    i: usize,
+    r: Source,
+) -> Outcome
+    requires { ⌜ Offered (stateFrom (now state)) (now state) (now keys) (now ranks) m i r ⌝ }
+    ensures { λ x. ⌜ Leaves (deliveredOnce (stateFrom (now (state .entry))) i) x
+        (now (state .exit)) (now (keys .exit)) (now (ranks .exit)) ⌝ }
 {
-    let k = arbitration::least(keys, m);
-    let c = decoding::core_at(state, k);
-    if records::rank(r) <= records::current_priority(c) as u32 + 1 {
-        return 0;
+    let key = places::lowest(keys, m);
+    if places::priority_of(ranks[i]) <= places::current_of(key) {
+        return answered(0, SourceId(0), 0);
     }
-    deliver(state, keys, i, r, k, c);
-    1
+    let k = places::core_of(key);
+    let c = decoding::core_at(state, k);
+    in_place::deliver(state, keys, ranks, i, r, k, c);
+    answered(0, SourceId(0), 1)
 }
 
 // Whether a filled box of the first m cores names the source.
@@ -71,11 +81,13 @@ fn is_claimed(state: &[u8], m: usize, id: SourceId, r: Source) -> bool
 pub fn on_source(
     state: &mut [u8],
     keys: &mut [u32; CORES],
+    ranks: &mut [u32; SOURCES],
     id: SourceId,
     a: SourceAction,
 ) -> Outcome
-    requires { ⌜ Placed (now state) (now keys) ⌝ }
-    ensures { λ r. ⌜ Executed (now (state .entry)) (Command.OnSource id a) r (now (state .exit)) (now (keys .exit)) ⌝ }
+    requires { ⌜ Ready (now state) (now keys) (now ranks) ⌝ }
+    ensures { λ r. ⌜ Executed (now (state .entry)) (Command.OnSource id a) r
+        (now (state .exit)) (now (keys .exit)) (now (ranks .exit)) ⌝ }
 {
     let n = decoding::word_at(state, 0);
     if !checks::names_source(n, id) {
@@ -90,7 +102,6 @@ pub fn on_source(
         return answered(number, SourceId(0), 0);
     }
     let next = records::source_after(a, r);
-    encoding::put_source_at(state, i, next);
-    let cycles = offer(state, keys, m, i, next);
-    answered(0, SourceId(0), cycles)
+    in_place::put_source(state, ranks, i, next);
+    offer(state, keys, ranks, m, i, next)
 }

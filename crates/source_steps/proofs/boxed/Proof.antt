@@ -1,4 +1,4 @@
--- `in_place::boxed` meets its contract. The loop's invariant: no box of the first k cores holds the request. Assumes nothing.
+-- `source_steps::boxed` meets its contract. The loop's invariant: no box of the first k cores holds the request. Assumes nothing.
 use Prim.Native.Nat.{_≤_, _-_}
 use mathlib.Core.Path.{_≡_, sym, ap, _∙_}
 use mathlib.Core.Bool.{true, false}
@@ -10,8 +10,8 @@ use Rattle.model.proofs.Boxes.{holds-in, boxed-in}
 use Rattle.checks.proofs.Tests.{holds-unfilled, holds-other, unboxed-none, unboxed-more, unboxed-all}
 use Rattle.layout.specs.Bytes.{stateFrom}
 use Rattle.layout.proofs.InPlace.{core-read}
-use Rattle.in_place.proofs.boxed.Statement.{statement}
-use Rattle.in_place.proofs.boxed.Tie as tie
+use Rattle.source_steps.proofs.boxed.Statement.{statement}
+use Rattle.source_steps.proofs.boxed.Tie as tie
 
 abbrev Inv-loop : tie.InvT-loop
 Inv-loop state m id k₀ k = (k ≤ m) × (boxed ((stateFrom state) .cores) k (id .0) ≡ false)
@@ -25,7 +25,8 @@ at-turn : (c : tie.After-core-at Inv-loop μ-loop) →
     c .core-at .result ≡ coreAt (stateFrom (a .state .now)) (c .before .before .loop .k)
 at-turn c =
     let a = c .before .before .before .before in
-    c .core-at .ensures ∙ sym (core-read (a .args .state .now) (c .before .before .loop .k) (omega (arith, c .before .loop-test .taken, a .pre .1)))
+    c .core-at .ensures ∙
+    sym (core-read (a .args .state .now) (c .before .before .loop .k) (omega (arith, c .before .loop-test .taken, a .pre .1)))
 
 loop-holds : tie.Need-loop-holds Inv-loop μ-loop
 loop-holds c = (omega arith, unboxed-none ((stateFrom (c .before .args .state .now)) .cores) (c .before .args .id .0))

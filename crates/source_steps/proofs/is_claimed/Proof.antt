@@ -1,11 +1,11 @@
--- `in_place::is_claimed` meets its contract: each test decides the flag that is left. Assumes nothing.
+-- `source_steps::is_claimed` meets its contract: each test decides the flag that is left. Assumes nothing.
 use borrow.Author.Needs.{needs}
 use mathlib.Core.Bool.{Bool}
 use Rattle.model.specs.Requests.{boxed}
 use Rattle.checks.proofs.Tests.{not-pending, not-delivered, in-no-box}
 use Rattle.layout.specs.Bytes.{stateFrom}
-use Rattle.in_place.proofs.is_claimed.Statement.{statement}
-use Rattle.in_place.proofs.is_claimed.Tie as tie
+use Rattle.source_steps.proofs.is_claimed.Statement.{statement}
+use Rattle.source_steps.proofs.is_claimed.Tie as tie
 
 -- whether a box names the source
 abbrev inBox : tie.Start → Bool

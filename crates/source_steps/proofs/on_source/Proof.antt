@@ -1,31 +1,44 @@
--- `in_place::on_source` meets its contract: the checks in their order, then the record stored and its request offered. Assumes nothing.
-use Prim.Native.Nat.{_-_, _<_}
+-- `source_steps::on_source` meets its contract: the checks in their order, then the record stored, its request offered. Assumes nothing.
 use mathlib.Core.Path.{_≡_}
+use mathlib.Core.Bool.{true}
 use native.Mathlib.Omega.{arith}
 use borrow.Author.Needs.{needs}
 use borrow.Author.Tests.{not-true, not-false}
-use Rattle.model.specs.Records.{maxSources}
-use Rattle.in_place.proofs.Sourced.{size-fits, cores-fit, bad-source, some-id, in-array, refused-later, offered, accepted-leaves}
-use Rattle.in_place.proofs.on_source.Statement.{statement}
-use Rattle.in_place.proofs.on_source.Tie as tie
+use Rattle.model.specs.Commands.{namesSource}
+use Rattle.layout.specs.Bytes.{stateFrom}
+use Rattle.source_steps.proofs.Offering.{held-length}
+use Rattle.source_steps.proofs.Sourced.{cores-fit, named-by, bad-source, some-id, in-array}
+use Rattle.source_steps.proofs.Sourced.{Looked, looked, refused-later, offered, accepted}
+use Rattle.source_steps.proofs.on_source.Statement.{statement}
+use Rattle.source_steps.proofs.on_source.Tie as tie
 
--- ---- what is known once the id has passed
+-- ---- what is known once the id has passed, and once the record is looked at
 
 abbrev start : tie.Else1 → tie.Start
 start c = c .before .before .before .before .before
 
--- the record's place
-place-in : (c : tie.Else1) → start c .args .id .0 - 1 < maxSources
-place-in c =
-    in-array (start c .pre) (start c .args .id) (start c .args .a) _ (c .before .before .word-at .ensures) _ (c .before .names-source .ensures)
+named : (c : tie.Else1) → namesSource (stateFrom (start c .args .state .now)) (start c .args .id) ≡ true
+named c =
+    let asked = c .before in
+    named-by (start c .pre) (start c .args .id) (asked .before .word-at .ensures) (asked .names-source .ensures)
     (not-false _ (c .if1 .left))
 
--- the node at which the id has passed, seen from the later checks
 abbrev passed : tie.After-source-refusal → tie.Else1
 passed c = c .before .before .before .before .before .before .before .before
 
+found : (c : tie.After-source-refusal) →
+    let a = start (passed c) .args in
+    let read = c .before .before .before in
+    Looked (stateFrom (a .state .now)) (a .id) (a .a) (read .before .before .word-at2 .result) (read .source-at .result)
+    (c .source-refusal .result)
+found c =
+    let at = passed c in
+    let read = c .before .before .before in
+    looked (start at .pre) _ (named at) (start at .args .a) (at .before .before .word-at .ensures)
+    (read .before .before .word-at2 .ensures) (read .source-at .ensures) (c .before .is-claimed .ensures) (c .source-refusal .ensures)
+
 word-at-requires : tie.Need-word-at-requires
-word-at-requires c κs = omega (arith, size-fits (c .before .before .pre))
+word-at-requires c κs = omega (arith, held-length (c .before .before .pre .held))
 
 names-source-requires : tie.Need-names-source-requires
 names-source-requires c κs = search needs
@@ -38,30 +51,32 @@ same-length c = search needs
 
 returns : tie.Need-returns
 returns c =
-    let given = c .before .before .before .before .before .before in
-    bad-source (given .pre) (given .args .id) (given .args .a) _ (c .before .before .before .word-at .ensures) _ (c .before .before .names-source .ensures)
-    (not-true _ (c .before .if1 .taken)) (c .answered .ensures)
+    let asked = c .before .before in
+    let given = asked .before .before .before .before in
+    let bad = not-true _ (c .before .if1 .taken) in
+    bad-source (given .pre) (given .args .id) (given .args .a)
+    (named-by (given .pre) (given .args .id) (asked .before .word-at .ensures) (asked .names-source .ensures) bad) (c .answered .ensures)
 
 cast-i : tie.Need-cast-i
 cast-i c = search needs
 
 sub-i : tie.Need-sub-i
-sub-i c =
-    let at = c .before in
-    some-id (start at .pre) (start at .args .id) (start at .args .a) _ (at .before .before .word-at .ensures) _ (at .before .names-source .ensures)
-    (not-false _ (at .if1 .left))
+sub-i c = some-id (start (c .before) .pre) _ (named (c .before))
 
 word-at-requires-2 : tie.Need-word-at-requires-2
-word-at-requires-2 c κs = omega (arith, size-fits (start (c .before .before) .pre))
+word-at-requires-2 c κs = omega (arith, held-length (start (c .before .before) .pre .held))
 
 cast-m : tie.Need-cast-m
 cast-m c = search needs
 
 source-at-requires : tie.Need-source-at-requires
-source-at-requires c κs = (size-fits (start (c .before .before .before .before) .pre), place-in (c .before .before .before .before))
+source-at-requires c κs =
+    let at = c .before .before .before .before in (held-length (start at .pre .held), in-array (start at .pre) _ (named at))
 
 is-claimed-requires : tie.Need-is-claimed-requires
-is-claimed-requires c κs = (size-fits (start (c .before .before .before .before .before .before) .pre), cores-fit (start (c .before .before .before .before .before .before) .pre) (c .before .before .before .word-at2 .ensures))
+is-claimed-requires c κs =
+    let sizes = c .before .before .before in
+    let given = start (sizes .before .before .before) .pre in (held-length (given .held), cores-fit given (sizes .word-at2 .ensures))
 
 source-refusal-requires : tie.Need-source-refusal-requires
 source-refusal-requires c κs = search needs
@@ -75,43 +90,34 @@ same-length-2 c = search needs
 returns-2 : tie.Need-returns-2
 returns-2 c =
     let asked = c .before .before in
-    let at = passed asked in
-    let given = start at in
-    refused-later (given .pre) (given .args .id) (given .args .a) _ (at .before .before .word-at .ensures) _ (at .before .names-source .ensures)
-    (not-false _ (at .if1 .left)) _ _ _ _ (asked .before .before .before .before .before .word-at2 .ensures) (asked .before .before .before .source-at .ensures)
-    (asked .before .is-claimed .ensures) (asked .source-refusal .ensures) (c .before .if2 .taken) (c .answered2 .ensures)
+    refused-later (start (passed asked) .pre) (found asked) (λ e. absurd (omega (arith, c .before .if2 .taken))) (c .answered2 .ensures)
 
 source-after-requires : tie.Need-source-after-requires
 source-after-requires c κs = search needs
 
-put-source-at-requires : tie.Need-put-source-at-requires
-put-source-at-requires c κs = (size-fits (start (c .before .before .before .before .before .before .before .before .before .before .before) .pre), place-in (c .before .before .before .before .before .before .before .before .before .before .before))
+put-source-requires : tie.Need-put-source-requires
+put-source-requires c κs =
+    let at = passed (c .before .before .before .before) in (held-length (start at .pre .held), in-array (start at .pre) _ (named at))
 
 offer-requires : tie.Need-offer-requires
 offer-requires c κs =
-    let asked = c .before .before .before .before .before .before .before .before in
-    let at = passed asked in
-    let given = start at in
-    offered (given .pre) (given .args .id) (given .args .a) _ (at .before .before .word-at .ensures) _ (at .before .names-source .ensures)
-    (not-false _ (at .if1 .left)) _ _ _ _ (asked .before .before .before .before .before .word-at2 .ensures) (asked .before .before .before .source-at .ensures)
-    (asked .before .is-claimed .ensures) (asked .source-refusal .ensures) (c .before .before .before .before .before .before .before .if2 .left) (c .before .before .before .before .before .before .source-after .ensures)
-    (c .before .before .before .before .put-source-at .ensures)
-
-answered-requires-3 : tie.Need-answered-requires-3
-answered-requires-3 c κs = search needs
+    let stored = c .before .before .before .before .before in
+    let made = stored .before .before .before in
+    let asked = made .before .before in
+    offered (start (passed asked) .pre) (found asked) (omega (arith, made .before .if2 .left)) (made .source-after .ensures)
+    (stored .put-source .ensures)
 
 same-length-3 : tie.Need-same-length-3
 same-length-3 c = search needs
 
 returns-3 : tie.Need-returns-3
 returns-3 c =
-    let asked = c .before .before .before .before .before .before .before .before .before .before .before .before in
-    let at = passed asked in
-    let given = start at in
-    accepted-leaves (given .pre) (given .args .id) (given .args .a) _ (at .before .before .word-at .ensures) _ (at .before .names-source .ensures)
-    (not-false _ (at .if1 .left)) _ _ _ _ (asked .before .before .before .before .before .word-at2 .ensures) (asked .before .before .before .source-at .ensures)
-    (asked .before .is-claimed .ensures) (asked .source-refusal .ensures) (c .before .before .before .before .before .before .before .before .before .before .before .if2 .left) (c .before .before .before .before .before .before .before .before .before .before .source-after .ensures)
-    (c .before .before .before .before .before .before .before .before .put-source-at .ensures) (c .before .before .before .offer .ensures) (c .answered3 .ensures)
+    let done = c .before .before in
+    let stored = done .before .before .before .before .before .before in
+    let made = stored .before .before .before in
+    let asked = made .before .before in
+    accepted (start (passed asked) .pre) (found asked) (omega (arith, made .before .if2 .left)) (made .source-after .ensures)
+    (stored .put-source .ensures) (done .offer .ensures)
 
 pub on-source-spec : {M : Type 1} → statement M
 on-source-spec =
@@ -133,8 +139,7 @@ on-source-spec =
     same-length-2
     returns-2
     source-after-requires
-    put-source-at-requires
+    put-source-requires
     offer-requires
-    answered-requires-3
     same-length-3
     returns-3)
