@@ -6,6 +6,7 @@
 --   Cores     one core in the pass over the cores
 --   Marks     what that pass keeps
 --   Verdict   the passes together, and the verdicts of a survey
+--   Read      the passes over records that are read one at a time
 pub mod Clauses
 pub mod Test
 pub mod Reset
@@ -13,3 +14,4 @@ pub mod Fits
 pub mod Cores
 pub mod Marks
 pub mod Verdict
+pub mod Read
