@@ -7,6 +7,7 @@
 --   Marks     what that pass keeps
 --   Verdict   the passes together, and the verdicts of a survey
 --   Read      the passes over records that are read one at a time
+--   Repeats   spare records that have the same bytes
 pub mod Clauses
 pub mod Test
 pub mod Reset
@@ -15,3 +16,4 @@ pub mod Cores
 pub mod Marks
 pub mod Verdict
 pub mod Read
+pub mod Repeats

@@ -1,4 +1,5 @@
--- The passes over records that are read one at a time: each law of a turn, said of a record that is known to be the state's. Assumes nothing.
+-- The passes over records that are read one at a time: each law of a turn, said of a record that is known to be the state's.
+-- Assumes nothing.
 --   sizes-read, holds-read           the sizes that were read, and what the passes are given
 --   passes-read, survey-read         both passes make the survey
 --   names-exact                      what `core_in_range` tests of a core, with the sizes that were read
@@ -105,7 +106,8 @@ module _ (s : Controller) (k : ℕ) {c : Core} (read : c ≡ coreAt s k) where
         next ≡ set seen (c .message .source .0 - 1) true → Boxes s next (k + 1)
     filled-read = rw read (filled-turn b)
 
-    pub empty-read : {next : List Bool} → CoreNames (s .n) (topPriority (s .n)) c → c .message .filled ≡ false → next ≡ seen → Boxes s next (k + 1)
+    pub empty-read :
+        {next : List Bool} → CoreNames (s .n) (topPriority (s .n)) c → c .message .filled ≡ false → next ≡ seen → Boxes s next (k + 1)
     empty-read = rw read (empty-turn b)
 
 pub shown-first :

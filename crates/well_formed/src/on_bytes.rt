@@ -1,5 +1,5 @@
 // The sound-state test on a state's bytes: each record is read where it lies, and the state is never held whole.
-ghost use Prim.Native.Nat.{_≤_};
+ghost use Prim.Native.Nat.{_+_, _≤_};
 ghost use mathlib.Core.Path.{_≡_};
 ghost use lib.ListN.{length};
 ghost use Rattle.model.specs.Records.{maxSources, maxCores};
@@ -8,14 +8,36 @@ ghost use Rattle.lists.specs.Walks.{every};
 ghost use Rattle.layout.specs.Bytes.{stateSize, stateFrom};
 ghost use Rattle.well_formed.specs.Survey.{surveyOf};
 ghost use Rattle.well_formed.specs.Loops.{spareCore, spareSource, coresSurvey, sourcesSurvey};
-ghost use Rattle.well_formed.specs.OnBytes.{Holds};
+ghost use Rattle.well_formed.specs.OnBytes.{Holds, repeating};
 use crate::Surveyed;
 use crate::UNBOXED;
+use layout::CORE_SIZE;
+use layout::CORES_FROM;
+use layout::SOURCE_SIZE;
+use layout::SOURCES_FROM;
+use layout::STATE_SIZE;
 use model::CORES;
 use model::SOURCES;
 
-// Whether the cores from m on are fresh. No early answer, so that the compiler can test several at once.
-fn spare_cores(state: &[u8], m: usize) -> bool
+// Whether each byte between two places is the same as the one a step further on. No early answer, so that the compiler can compare many at
+// once.
+fn repeats(state: &[u8], from: usize, to: usize, step: usize) -> bool
+    requires { ⌜ (length (now state) ≡ stateSize) × (from ≤ to) × (to + step ≤ stateSize) ⌝ }
+    ensures { λ r. ⌜ r ≡ every to (repeating (now (state .entry)) step from) ⌝ }
+{
+    let mut same = true;
+    let mut at = from;
+    while at < to {
+        if state[at] != state[at + step] {
+            same = false;
+        }
+        at += 1;
+    }
+    same
+}
+
+// Whether each core from m on is fresh, one after another.
+fn each_spare_core(state: &[u8], m: usize) -> bool
     requires { ⌜ (length (now state) ≡ stateSize) × (m ≤ maxCores) ⌝ }
     ensures { λ r. ⌜ r ≡ every maxCores (spareCore ((stateFrom (now (state .entry))) .cores) m) ⌝ }
 {
@@ -30,8 +52,8 @@ fn spare_cores(state: &[u8], m: usize) -> bool
     fresh
 }
 
-// Whether the sources from n on are fresh. No early answer either.
-fn spare_sources(state: &[u8], n: usize) -> bool
+// Whether each source from n on is fresh, one after another.
+fn each_spare_source(state: &[u8], n: usize) -> bool
     requires { ⌜ (length (now state) ≡ stateSize) × (n ≤ maxSources) ⌝ }
     ensures { λ r. ⌜ r ≡ every maxSources (spareSource ((stateFrom (now (state .entry))) .sources) n) ⌝ }
 {
@@ -44,6 +66,37 @@ fn spare_sources(state: &[u8], n: usize) -> bool
         i += 1;
     }
     fresh
+}
+
+// Whether the cores from m on are fresh. Where all have the bytes of the first, as in a state that a call wrote, that one is tested; else
+// each is, since a flag that is neither 0 nor 1 is read as off.
+fn spare_cores(state: &[u8], m: usize) -> bool
+    requires { ⌜ (length (now state) ≡ stateSize) × (m ≤ maxCores) ⌝ }
+    ensures { λ r. ⌜ r ≡ every maxCores (spareCore ((stateFrom (now (state .entry))) .cores) m) ⌝ }
+{
+    if CORES <= m {
+        return true;
+    }
+    let first = CORES_FROM + CORE_SIZE * m;
+    if repeats(state, first, STATE_SIZE - CORE_SIZE, CORE_SIZE) {
+        return crate::is_reset_core(decoding::core_at(state, m));
+    }
+    each_spare_core(state, m)
+}
+
+// Whether the sources from n on are fresh, in the same way.
+fn spare_sources(state: &[u8], n: usize) -> bool
+    requires { ⌜ (length (now state) ≡ stateSize) × (n ≤ maxSources) ⌝ }
+    ensures { λ r. ⌜ r ≡ every maxSources (spareSource ((stateFrom (now (state .entry))) .sources) n) ⌝ }
+{
+    if SOURCES <= n {
+        return true;
+    }
+    let first = SOURCES_FROM + SOURCE_SIZE * n;
+    if repeats(state, first, CORES_FROM - SOURCE_SIZE, SOURCE_SIZE) {
+        return crate::is_reset_source(decoding::source_at(state, n));
+    }
+    each_spare_source(state, n)
 }
 
 // The pass over the cores: those in use have priorities "0 to top" and boxes that are backed, each by a source of its own, and the others

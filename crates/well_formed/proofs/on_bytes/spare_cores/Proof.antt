@@ -1,61 +1,61 @@
--- `well_formed::on_bytes::spare_cores` meets its contract. The loop's invariant: the flag says whether every spare core below k is reset.
+-- `well_formed::on_bytes::spare_cores` meets its contract: where the bytes repeat, every spare core is what the first is.
 -- Assumes nothing.
-use Prim.Native.Nat.{_≤_, _-_}
-use mathlib.Core.Path.{_≡_, sym, ap, _∙_}
-use mathlib.Core.Logic.{⊎-elim}
-use native.Mathlib.Omega.{arith}
-use Rattle.model.specs.Records.{maxCores, coreAt}
+use mathlib.Core.Path.{sym, ap, _∙_}
+use borrow.Author.Needs.{needs}
+use Rattle.model.specs.Records.{maxCores}
 use Rattle.model.specs.WellFormed.{isResetCore}
-use Rattle.lists.specs.Walks.{every}
-use Rattle.lists.proofs.Turns.{since-begin, since-turn, since-end}
-use Rattle.layout.specs.Bytes.{stateFrom}
-use Rattle.layout.proofs.InPlace.{core-read}
-use Rattle.well_formed.specs.Loops.{spareCore}
+use Rattle.lists.proofs.Turns.{since-begin}
+use Rattle.well_formed.proofs.Repeats.{spare-cores-by-first}
 use Rattle.well_formed.proofs.on_bytes.spare_cores.Statement.{statement}
 use Rattle.well_formed.proofs.on_bytes.spare_cores.Tie as tie
 
-abbrev Inv-loop : tie.InvT-loop
-Inv-loop state m fresh₀ k₀ fresh k =
-    (m ≤ k) × ((k ≤ maxCores) × (fresh ≡ every k (spareCore ((stateFrom state) .cores) m)))
+returns : tie.Need-returns
+returns c = since-begin _ _ maxCores (c .if1 .taken)
 
-abbrev μ-loop : tie.MeasureT-loop
-μ-loop state m fresh₀ k₀ fresh k = maxCores - k
+mul-first : tie.Need-mul-first
+mul-first c = search needs
 
-loop-holds : tie.Need-loop-holds Inv-loop μ-loop
-loop-holds c = (omega arith, (omega (arith, c .before .pre .1), since-begin _ _ _ (omega arith)))
+add-first : tie.Need-add-first
+add-first c = search needs
 
-core-at-requires : tie.Need-core-at-requires Inv-loop μ-loop
-core-at-requires c κs = (c .before .before .before .pre .0, omega arith)
+sub-repeats : tie.Need-sub-repeats
+sub-repeats c = search needs
 
-is-reset-core-requires : tie.Need-is-reset-core-requires Inv-loop μ-loop
+repeats-requires : tie.Need-repeats-requires
+repeats-requires c κs = search needs
+
+core-at-requires : tie.Need-core-at-requires
+core-at-requires c κs = search needs
+
+is-reset-core-requires : tie.Need-is-reset-core-requires
 is-reset-core-requires c κs = tt
 
-add-k : tie.Need-add-k Inv-loop μ-loop
-add-k c = omega arith
-
-loop-less : tie.Need-loop-less Inv-loop μ-loop
-loop-less c = omega arith
-
--- what the turn's test says
-tested : (c : tie.After-is-reset-core Inv-loop μ-loop) →
-    let turn = c .before .before in
-    c .is-reset-core .result ≡ isResetCore (coreAt (stateFrom (turn .before .before .before .args .state .now)) (turn .before .loop .k))
-tested c =
-    let turn = c .before .before in
+returns-2 : tie.Need-returns-2
+returns-2 c =
+    let same = c .before .before in
+    let one = same .before .before in
+    let a = one .before .before .args in
     c .is-reset-core .ensures ∙
-    ap isResetCore
-    (c .before .core-at .ensures ∙ sym (core-read (turn .before .before .before .args .state .now) (turn .before .loop .k) (omega arith)))
+    ap isResetCore (c .before .core-at .ensures) ∙
+    spare-cores-by-first (a .state .now) (a .m) (one .if1 .left) (sym (same .before .repeats .ensures) ∙ same .if2 .taken)
 
-loop-again : tie.Need-loop-again Inv-loop μ-loop
-loop-again c =
-    let l = c .before .before .before .before .loop in
-    let (off, more) = since-turn _ _ _ (l .inv .1 .1) (omega arith) (tested (c .before)) in
-    (omega arith, (omega arith, ⊎-elim (λ w. w .1 ∙ off (w .0 .taken)) (λ w. w .1 ∙ more (w .0 .left)) (c .if1 .came)))
+each-spare-core-requires : tie.Need-each-spare-core-requires
+each-spare-core-requires c κs = search needs
 
-returns : tie.Need-returns Inv-loop μ-loop
-returns c = since-end _ _ _ (c .before .loop .inv .1 .1) maxCores (omega arith)
+returns-3 : tie.Need-returns-3
+returns-3 c = search needs
 
 pub spare-cores-spec : {M : Type 1} → statement M
 spare-cores-spec =
     tie.close
-    (tie.spec Inv-loop μ-loop loop-holds core-at-requires is-reset-core-requires add-k loop-less loop-again returns)
+    (tie.spec
+    returns
+    mul-first
+    add-first
+    sub-repeats
+    repeats-requires
+    core-at-requires
+    is-reset-core-requires
+    returns-2
+    each-spare-core-requires
+    returns-3)

@@ -1,61 +1,61 @@
--- `well_formed::on_bytes::spare_sources` meets its contract. The loop's invariant: the flag says whether every spare source below i is reset.
+-- `well_formed::on_bytes::spare_sources` meets its contract: where the bytes repeat, every spare source is what the first is.
 -- Assumes nothing.
-use Prim.Native.Nat.{_≤_, _-_}
-use mathlib.Core.Path.{_≡_, sym, ap, _∙_}
-use mathlib.Core.Logic.{⊎-elim}
-use native.Mathlib.Omega.{arith}
-use Rattle.model.specs.Records.{maxSources, sourceAt}
+use mathlib.Core.Path.{sym, ap, _∙_}
+use borrow.Author.Needs.{needs}
+use Rattle.model.specs.Records.{maxSources}
 use Rattle.model.specs.WellFormed.{isResetSource}
-use Rattle.lists.specs.Walks.{every}
-use Rattle.lists.proofs.Turns.{since-begin, since-turn, since-end}
-use Rattle.layout.specs.Bytes.{stateFrom}
-use Rattle.layout.proofs.InPlace.{source-read}
-use Rattle.well_formed.specs.Loops.{spareSource}
+use Rattle.lists.proofs.Turns.{since-begin}
+use Rattle.well_formed.proofs.Repeats.{spare-sources-by-first}
 use Rattle.well_formed.proofs.on_bytes.spare_sources.Statement.{statement}
 use Rattle.well_formed.proofs.on_bytes.spare_sources.Tie as tie
 
-abbrev Inv-loop : tie.InvT-loop
-Inv-loop state n fresh₀ i₀ fresh i =
-    (n ≤ i) × ((i ≤ maxSources) × (fresh ≡ every i (spareSource ((stateFrom state) .sources) n)))
+returns : tie.Need-returns
+returns c = since-begin _ _ maxSources (c .if1 .taken)
 
-abbrev μ-loop : tie.MeasureT-loop
-μ-loop state n fresh₀ i₀ fresh i = maxSources - i
+mul-first : tie.Need-mul-first
+mul-first c = search needs
 
-loop-holds : tie.Need-loop-holds Inv-loop μ-loop
-loop-holds c = (omega arith, (omega (arith, c .before .pre .1), since-begin _ _ _ (omega arith)))
+add-first : tie.Need-add-first
+add-first c = search needs
 
-source-at-requires : tie.Need-source-at-requires Inv-loop μ-loop
-source-at-requires c κs = (c .before .before .before .pre .0, omega arith)
+sub-repeats : tie.Need-sub-repeats
+sub-repeats c = search needs
 
-is-reset-source-requires : tie.Need-is-reset-source-requires Inv-loop μ-loop
+repeats-requires : tie.Need-repeats-requires
+repeats-requires c κs = search needs
+
+source-at-requires : tie.Need-source-at-requires
+source-at-requires c κs = search needs
+
+is-reset-source-requires : tie.Need-is-reset-source-requires
 is-reset-source-requires c κs = tt
 
-add-i : tie.Need-add-i Inv-loop μ-loop
-add-i c = omega arith
-
-loop-less : tie.Need-loop-less Inv-loop μ-loop
-loop-less c = omega arith
-
--- what the turn's test says
-tested : (c : tie.After-is-reset-source Inv-loop μ-loop) →
-    let turn = c .before .before in
-    c .is-reset-source .result ≡ isResetSource (sourceAt (stateFrom (turn .before .before .before .args .state .now)) (turn .before .loop .i))
-tested c =
-    let turn = c .before .before in
+returns-2 : tie.Need-returns-2
+returns-2 c =
+    let same = c .before .before in
+    let one = same .before .before in
+    let a = one .before .before .args in
     c .is-reset-source .ensures ∙
-    ap isResetSource
-    (c .before .source-at .ensures ∙ sym (source-read (turn .before .before .before .args .state .now) (turn .before .loop .i) (omega arith)))
+    ap isResetSource (c .before .source-at .ensures) ∙
+    spare-sources-by-first (a .state .now) (a .n) (one .if1 .left) (sym (same .before .repeats .ensures) ∙ same .if2 .taken)
 
-loop-again : tie.Need-loop-again Inv-loop μ-loop
-loop-again c =
-    let l = c .before .before .before .before .loop in
-    let (off, more) = since-turn _ _ _ (l .inv .1 .1) (omega arith) (tested (c .before)) in
-    (omega arith, (omega arith, ⊎-elim (λ w. w .1 ∙ off (w .0 .taken)) (λ w. w .1 ∙ more (w .0 .left)) (c .if1 .came)))
+each-spare-source-requires : tie.Need-each-spare-source-requires
+each-spare-source-requires c κs = search needs
 
-returns : tie.Need-returns Inv-loop μ-loop
-returns c = since-end _ _ _ (c .before .loop .inv .1 .1) maxSources (omega arith)
+returns-3 : tie.Need-returns-3
+returns-3 c = search needs
 
 pub spare-sources-spec : {M : Type 1} → statement M
 spare-sources-spec =
     tie.close
-    (tie.spec Inv-loop μ-loop loop-holds source-at-requires is-reset-source-requires add-i loop-less loop-again returns)
+    (tie.spec
+    returns
+    mul-first
+    add-first
+    sub-repeats
+    repeats-requires
+    source-at-requires
+    is-reset-source-requires
+    returns-2
+    each-spare-source-requires
+    returns-3)

@@ -1,6 +1,8 @@
 -- `well_formed::on_bytes::survey` meets its contract: with sizes in range, a state is consistent just if both passes succeed.
 -- Assumes nothing.
+use Prim.Native.Nat.{ℕ}
 use mathlib.Core.Path.{_≡_, sym, _∙_, ap}
+use mathlib.Core.List.{List}
 use mathlib.Core.Bool.{Bool, _&&_}
 use native.Mathlib.Omega.{arith}
 use borrow.Author.Needs.{needs}
@@ -26,8 +28,11 @@ use Rattle.well_formed.proofs.on_bytes.survey.Tie as tie
 abbrev start : tie.After-word-at2 → tie.Start
 start c = c .before .before .before
 
+abbrev bytes : tie.After-word-at2 → List ℕ
+bytes c = start c .args .state .now
+
 abbrev state : tie.After-word-at2 → Controller
-state c = stateFrom (start c .args .state .now)
+state c = stateFrom (bytes c)
 
 -- the sizes, once they have passed
 in-range : (c : tie.Else1) → let read = c .before .before in InRange (read .before .word-at .result) (read .word-at2 .result)
@@ -35,7 +40,8 @@ in-range c = accepted (sizes-exact _ _) (c .before .sizes-in-range .ensures) (c 
 
 passes-both : (c : tie.Else1) → let s = state (c .before .before) in consistent s ≡ bothSound s
 passes-both c =
-    let read = c .before .before in passes-read (start read .args .state .now) (read .before .word-at .ensures) (read .word-at2 .ensures) (in-range c)
+    let read = c .before .before in
+    passes-read (bytes read) (read .before .word-at .ensures) (read .word-at2 .ensures) (in-range c)
 
 -- what the pass over the cores answers
 cores-is : (c : tie.After-survey-cores) →
@@ -67,7 +73,7 @@ returns c =
     (sym (refused (consistent-exact s)
     (λ d.
     rejected (sizes-exact _ _) (tested .sizes-in-range .ensures) (c .before .if1 .taken)
-    (sizes-read (start read .args .state .now) (read .before .word-at .ensures) (read .word-at2 .ensures) d))))
+    (sizes-read (bytes read) (read .before .word-at .ensures) (read .word-at2 .ensures) d))))
 
 top-priority-requires : tie.Need-top-priority-requires
 top-priority-requires c κs = tt
@@ -84,7 +90,8 @@ cast-survey-cores c = search needs
 survey-cores-requires : tie.Need-survey-cores-requires
 survey-cores-requires c κs =
     let read = c .before .before .before in
-    holds-read (start read .args .state .now) (read .before .word-at .ensures) (read .word-at2 .ensures) (start read .pre) (in-range (c .before)) (c .top-priority .ensures)
+    holds-read (bytes read) (read .before .word-at .ensures) (read .word-at2 .ensures)
+    (start read .pre) (in-range (c .before)) (c .top-priority .ensures)
 
 inconsistent-requires-2 : tie.Need-inconsistent-requires-2
 inconsistent-requires-2 c κs = tt
@@ -110,8 +117,9 @@ returns-3 c =
     let cores = c .before .before .before in
     let one = cores .before .before in
     let read = one .before .before in
-    survey-read (start read .args .state .now) (read .before .word-at .ensures) (read .word-at2 .ensures) (in-range one) (cores .before .top-priority .ensures)
-    (cores .survey-cores .ensures) (sym (cores-is cores) ∙ not-false _ (c .before .if2 .left)) (c .survey-sources .ensures)
+    survey-read (bytes read) (read .before .word-at .ensures) (read .word-at2 .ensures) (in-range one)
+    (cores .before .top-priority .ensures) (cores .survey-cores .ensures)
+    (sym (cores-is cores) ∙ not-false _ (c .before .if2 .left)) (c .survey-sources .ensures)
 
 pub survey-spec : {M : Type 1} → statement M
 survey-spec =

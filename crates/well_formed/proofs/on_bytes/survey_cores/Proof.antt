@@ -19,7 +19,8 @@ use Rattle.well_formed.specs.Survey.{inconsistentSurvey}
 use Rattle.well_formed.specs.Loops.{spareCore, backs, coresTo, coresSurvey}
 use Rattle.well_formed.proofs.Cores.{CoreNames, CoreSound, spare-cores-exact, cores-refused, cores-passed}
 use Rattle.well_formed.proofs.Marks.{Boxes, boxes-begin}
-use Rattle.well_formed.proofs.Read.{names-exact, names-read, backs-read, shown-read, twice-read, filled-read, empty-read, shown-first}
+use Rattle.well_formed.proofs.Read.{names-exact, names-read, backs-read, twice-read}
+use Rattle.well_formed.proofs.Read.{filled-read, empty-read, shown-first, shown-read}
 use Rattle.well_formed.proofs.on_bytes.survey_cores.Statement.{statement}
 use Rattle.well_formed.proofs.on_bytes.survey_cores.Tie as tie
 
@@ -67,7 +68,9 @@ refuted c r = cores-refused (state (given c)) (λ p. r (p .0 (number c) (below c
 -- it has passed the first test
 names : (c : tie.Else2 Inv-loop μ-loop) →
     let d = c .before .before in CoreNames (state (given d) .n) (topPriority (state (given d) .n)) (core d)
-names c = accepted (names-exact (given (c .before .before) .pre) (core (c .before .before))) (c .before .core-in-range .ensures) (c .if2 .left)
+names c =
+    let d = c .before .before in
+    accepted (names-exact (given d .pre) (core d)) (c .before .core-in-range .ensures) (c .if2 .left)
 
 sources-le : (c : Turn) → state (given c) .n ≤ maxSources
 sources-le c = omega (arith, (given c .pre) .n-is, (given c .pre) .in-range .n-le)

@@ -16,7 +16,8 @@ use Rattle.layout.proofs.InPlace.{source-read}
 use Rattle.well_formed.specs.Survey.{surveyWith, inconsistentSurvey, greatestWaiting}
 use Rattle.well_formed.specs.Loops.{sourcesSurvey}
 use Rattle.well_formed.proofs.Clauses.{SourceFits}
-use Rattle.well_formed.proofs.Fits.{fits-pending, fits-idle, fitsAt, spare-sources-exact, sources-refused, sources-passed, waiting-begin}
+use Rattle.well_formed.proofs.Fits.{fits-pending, fits-idle, fitsAt, waiting-begin}
+use Rattle.well_formed.proofs.Fits.{spare-sources-exact, sources-refused, sources-passed}
 use Rattle.well_formed.proofs.Read.{fits-read, fits-unread, raised-read, same-read}
 use Rattle.well_formed.proofs.on_bytes.survey_sources.Statement.{statement}
 use Rattle.well_formed.proofs.on_bytes.survey_sources.Tie as tie
@@ -42,7 +43,8 @@ read : (c : tie.After-source-at Inv-loop μ-loop) →
     c .source-at .result ≡ sourceAt (stateFrom (start (c .before .before .before) .args .state .now)) (c .before .before .loop .i)
 read c =
     let a = start (c .before .before .before) in
-    c .source-at .ensures ∙ sym (source-read (a .args .state .now) (c .before .before .loop .i) (omega (arith, c .before .loop-test .taken, a .pre .1)))
+    let i = c .before .before .loop .i in
+    c .source-at .ensures ∙ sym (source-read (a .args .state .now) i (omega (arith, c .before .loop-test .taken, a .pre .1)))
 
 -- a source that fails a test isn't in range
 refuted : (c : tie.After-source-at Inv-loop μ-loop) →
