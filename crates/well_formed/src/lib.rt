@@ -1,4 +1,6 @@
 // The sound-state test and its parts, on any record whatever: one pass over the cores, one over the sources.
+pub mod on_bytes;
+
 ghost use Prim.Native.Nat.{_≤_, min, max};
 ghost use mathlib.Core.Path.{_≡_};
 ghost use mathlib.Core.Bool.{true};
