@@ -1,3 +1,4 @@
 -- What is held after each store.
 pub mod Stored
 pub mod Numbering
+pub mod Refused
