@@ -24,7 +24,7 @@ use Rattle.layout.specs.Statements.{Sized}
 use Rattle.in_place.specs.declared.Outcome.{Outcome}
 use Rattle.in_place.specs.Held.{Numbered, Held}
 use Rattle.in_place.specs.Steps.{Says, Ready, Executed}
-use Rattle.in_place.proofs.Stored.{held-back, held-here}
+use Rattle.in_place.proofs.Stored.{held-back, held-here, held-length}
 use Rattle.steps.specs.Going.{Going, Went}
 
 -- ---- before the first command
@@ -33,13 +33,14 @@ pub state-size : (b : List ℕ) → isState b ≡ true → length b ≡ stateSiz
 unfolding isState
 state-size b e = eqb-true (length b) stateSize (and-l _ _ (and-l _ _ e))
 
-module _ {b keys ranks : List ℕ} (whole : b ≡ stateBytes (stateFrom b)) {sound : Bool} (tested : sound ≡ wellFormed (stateFrom b)) where
+module _ {b keys ranks : List ℕ} (encodes : isState b ≡ true) (whole : b ≡ stateBytes (stateFrom b)) {sound : Bool}
+    (tested : sound ≡ wellFormed (stateFrom b)) where
   pub begun-unsound : sound ≡ false → Going sound b keys ranks
-  begun-unsound e = record { whole = whole; tested = tested; held = λ f. clash f e }
+  begun-unsound e = record { size = state-size b encodes; whole = whole; tested = tested; held = λ f. clash f e }
 
   pub begun-sound : Sized (stateFrom b) → Numbered (stateFrom b) keys ranks → Going sound b keys ranks
   begun-sound sized numbered =
-      record { whole = whole; tested = tested; held = λ f. record { bytes-are = whole; sized = sized; numbered = numbered } }
+      record { size = state-size b encodes; whole = whole; tested = tested; held = λ f. record { bytes-are = whole; sized = sized; numbered = numbered } }
 
 -- ---- one command more
 
@@ -68,6 +69,7 @@ module _ {sound : Bool} {b keys ranks : List ℕ} (g : Going sound b keys ranks)
           state-is = back;
           going =
               record {
+                size = held-length (done .held);
                 whole = done .held .bytes-are ∙ ap stateBytes (sym back);
                 tested = e ∙ sym (wellFormed-in (stateFrom b′) (subst WellFormed (sym back) kept));
                 held = λ f. held-here (done .held);

@@ -4,15 +4,17 @@
 use mathlib.Core.Path.{_≡_}
 use mathlib.Core.List.{List}
 use mathlib.Core.Bool.{Bool, true}
+use lib.ListN.{length}
 use Prim.Native.Nat.{ℕ}
 use Rattle.model.specs.declared.Answer.{Answer}
 use Rattle.model.specs.WellFormed.{wellFormed}
-use Rattle.layout.specs.Bytes.{stateBytes, stateFrom}
+use Rattle.layout.specs.Bytes.{stateSize, stateBytes, stateFrom}
 use Rattle.in_place.specs.declared.Outcome.{Outcome}
 use Rattle.in_place.specs.Held.{Held}
 use Rattle.in_place.specs.Steps.{Says}
 
 pub record Going (sound : Bool) (b keys ranks : List ℕ) : Type 0 where
+  pub size : length b ≡ stateSize
   pub whole : b ≡ stateBytes (stateFrom b)
   pub tested : sound ≡ wellFormed (stateFrom b)
   pub held : sound ≡ true → Held (stateFrom b) b keys ranks

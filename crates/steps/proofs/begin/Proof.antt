@@ -29,10 +29,10 @@ number-all-requires c κs =
 returns : tie.Need-returns
 returns c =
     let tested = c .before .before .before .before in
-    begun-sound (whole tested) (tested .is-sound .ensures) (sized tested) (c .number-all .ensures)
+    begun-sound (tested .before .before .pre .0) (whole tested) (tested .is-sound .ensures) (sized tested) (c .number-all .ensures)
 
 returns-2 : tie.Need-returns-2
-returns-2 c = begun-unsound (whole (c .before)) (c .before .is-sound .ensures) (c .if1 .left)
+returns-2 c = begun-unsound (c .before .before .before .pre .0) (whole (c .before)) (c .before .is-sound .ensures) (c .if1 .left)
 
 pub begin-spec : {M : Type 1} → statement M
 begin-spec = tie.close (tie.spec is-sound-requires number-all-requires returns returns-2)
