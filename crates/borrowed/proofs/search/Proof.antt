@@ -1,14 +1,26 @@
--- `borrowed::search` meets its contract: the number is the extent's, and the position that of the keys. Assumes nothing.
-use Rattle.borrowed.proofs.Searches.{searched}
+-- `borrowed::search` meets its contract: the number is the extent's, position and ranges are what the tree over the keys finds.
+-- Assumes nothing.
 use borrow.Author.Needs.{needs}
+use Rattle.borrowed.proofs.Searches.{found-inside, searched}
 use Rattle.borrowed.proofs.search.Statement.{statement}
 use Rattle.borrowed.proofs.search.Tie as tie
 
+marks-of-requires : tie.Need-marks-of-requires
+marks-of-requires c κs = search needs
+
+find-requires : tie.Need-find-requires
+find-requires c κs = search needs
+
 position-requires : tie.Need-position-requires
-position-requires c κs = search needs
+position-requires c κs =
+    let at = c .before .before .before .before in
+    found-inside (at .args .keys .now) (at .args .e .read) (at .pre) (c .find .result) (c .find .ensures)
 
 returns : tie.Need-returns
-returns c = searched (c .before .args .keys .now) (c .before .args .e) (c .position .result) (c .position .ensures)
+returns c =
+    let args = c .before .before .before .before .before .args in
+    let find = c .before .find in
+    searched (args .keys .now) (args .e) (find .result) (c .position .result) (find .ensures) (c .position .ensures)
 
 pub search-spec : {M : Type 1} → statement M
-search-spec = tie.close (tie.spec position-requires returns)
+search-spec = tie.close (tie.spec marks-of-requires find-requires position-requires returns)
