@@ -40,9 +40,9 @@ extent-none len h = rw (lt-leb len maxSources h)
 -- ---- the position
 
 -- the highest candidate's place lies in the row, also for an empty one
-pub found-inside : (ks : List ℕ) (n : ℕ) → n ≤ maxSources → (r : Looked) → Searched ks n r → r .at < maxSources
+pub found-inside : {ks : List ℕ} {n : ℕ} → n ≤ maxSources → (r : Looked) → Searched ks n r → r .at < maxSources
 unfolding tree
-found-inside ks n h r looked = go n h (looked .highest)
+found-inside {ks} {n} h r looked = go n h (looked .highest)
   where
     go : (k : ℕ) → k ≤ maxSources → HighestKey ks 0 k (r .at) → r .at < maxSources
     go zero g e = omega (arith, e 0 (omega arith))

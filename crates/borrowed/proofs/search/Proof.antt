@@ -1,5 +1,6 @@
 -- `borrowed::search` meets its contract: the number is the extent's, position and ranges are what the tree over the keys finds.
 -- Assumes nothing.
+use native.Mathlib.Omega.{arith}
 use borrow.Author.Needs.{needs}
 use Rattle.borrowed.proofs.Searches.{found-inside, searched}
 use Rattle.borrowed.proofs.search.Statement.{statement}
@@ -12,9 +13,7 @@ find-requires : tie.Need-find-requires
 find-requires c κs = search needs
 
 position-requires : tie.Need-position-requires
-position-requires c κs =
-    let at = c .before .before .before .before in
-    found-inside (at .args .keys .now) (at .args .e .read) (at .pre) (c .find .result) (c .find .ensures)
+position-requires c κs = found-inside (omega arith) (c .find .result) (c .find .ensures)
 
 returns : tie.Need-returns
 returns c =
