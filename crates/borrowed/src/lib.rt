@@ -4,8 +4,8 @@ ghost use mathlib.Core.Path.{_≡_};
 ghost use Rattle.model.specs.Records.{maxSources, taken, claimedAs};
 ghost use Rattle.borrowed.specs.Lent.{claimable as claimableCore, takenFrom, foundIn, rangesIn};
 ghost use Rattle.borrowed.specs.Keys.{extentOf, positionOf, SoughtIn, SoughtByKeys};
-use arbitration::marks::MARKS;
-use arbitration::search::Looked;
+use arbitration::marks;
+use arbitration::search;
 use checks::numbers::BAD_SIZE;
 use checks::numbers::MALFORMED;
 use checks::numbers::NOTHING_TO_CLAIM;
@@ -104,7 +104,7 @@ struct Sought {
 }
 
 // The position plus one of what was found, 0 if no range was looked into: then there is no candidate.
-fn position(looked: Looked) -> u16
+fn position(looked: search::Looked) -> u16
     requires { ⌜ looked .at < maxSources ⌝ }
     ensures { λ r. ⌜ r ≡ positionOf looked ⌝ }
 {
@@ -115,14 +115,14 @@ fn position(looked: Looked) -> u16
 }
 
 // What a list of that extent comes to, from the ranks of what is read: the marks are made, and the comparator tree runs over them.
-fn search(keys: &[u32; SOURCES], e: Extent) -> Sought
+fn search_keys(keys: &[u32; SOURCES], e: Extent) -> Sought
     requires { ⌜ e .read ≤ maxSources ⌝ }
     ensures { λ r. ⌜ SoughtByKeys (now (keys .entry)) e r ⌝ }
 {
     let n = e.read;
-    let mut marks = [0; MARKS];
-    arbitration::marks::marks_of(keys, n, &mut marks);
-    let looked = arbitration::search::find(keys, &marks, n);
+    let mut marks = [0; marks::MARKS];
+    marks::marks_of(keys, n, &mut marks);
+    let looked = search::find(keys, &marks, n);
     let at = position(looked);
     Sought {
         number: e.number,
@@ -144,7 +144,7 @@ fn seek(list: &[Source]) -> Sought
         keys[i] = records::rank(list[i]);
         i += 1;
     }
-    search(&keys, e)
+    search_keys(&keys, e)
 }
 
 // Where the first highest candidate of a lent list stands.

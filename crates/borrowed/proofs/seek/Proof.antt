@@ -1,7 +1,7 @@
 -- `borrowed::seek` meets its contract: a walk of its MIR, by hand. The walk goes up to the loop here; a turn that copies one
 -- rank is in `Turn`, the turn that leaves the loop and what follows it in `Ending`, and what stands between two turns in `Frame`.
 -- The loop falls by the number of records that are left. That the keys are the ranks is a field of the loop's variant (`Filling`), and what
--- the answer is from there is `search`'s contract.
+-- the answer is from there is `search_keys`'s contract.
 -- Assumes nothing.
 mod Callees
 mod Frame
@@ -67,9 +67,9 @@ use Rattle.borrowed.proofs.Extent.Laws as Ex′
 use Rattle.borrowed.proofs.extent_of.Symbol as extent-def
 use Rattle.borrowed.proofs.extent_of.Symbol.{name as #borrowed·extent-of}
 use Rattle.borrowed.proofs.extent_of.Met as extent-thm
-use Rattle.borrowed.proofs.search.Symbol as search-def
-use Rattle.borrowed.proofs.search.Symbol.{name as #borrowed·search}
-use Rattle.borrowed.proofs.search.Met as search-thm
+use Rattle.borrowed.proofs.search_keys.Symbol as search-def
+use Rattle.borrowed.proofs.search_keys.Symbol.{name as #borrowed·search-keys}
+use Rattle.borrowed.proofs.search_keys.Met as search-thm
 use Rattle.borrowed.proofs.seek.Key.{name as #borrowed·seek}
 use Rattle.borrowed.proofs.seek as seek
 use Rattle.borrowed.proofs.seek.Statement as stated
@@ -95,7 +95,7 @@ pub record Known
     {M : Type 1} (𝓤 : URA M) (H : Heap 𝓤) (A : Atoms 𝓤) (at-mem : Memory → SProp 𝓤) (run : Routine → Fun 𝓤) (𝓣 : Tables 𝓤 H) : Type 2 where
   pub extents-of : Triple 𝓤 (𝓣 .C #borrowed·extent-of) (ExtentOf 𝓤 H A at-mem run)
   pub ranks : Triple 𝓤 (𝓣 .C #records·rank) (Rank 𝓤 H A at-mem run)
-  pub searches : Triple 𝓤 (𝓣 .C #borrowed·search) (Search 𝓤 H A at-mem run)
+  pub searches : Triple 𝓤 (𝓣 .C #borrowed·search-keys) (Search 𝓤 H A at-mem run)
 
 module _
     {M : Type 1} (𝓤 : URA M) (H : Heap 𝓤) (A : Atoms 𝓤) (W : Given 𝓤 H A) (at-mem : Memory → SProp 𝓤) (run : Routine → Fun 𝓤)
@@ -225,5 +225,5 @@ seek-spec 𝓤 H 𝓜 𝓖 𝓡 =
           #records·rank rank-def.routine code.calls-records·rank (rank-thm.met 𝓤 H 𝓜 𝓖 𝓡);
       searches =
           cited 𝓤 H (Search 𝓤 H (𝓖 .A) (𝓜 .mem) (𝓡 .run)) 𝓜 𝓡 code.env
-          #borrowed·search search-def.routine code.calls-borrowed·search (search-thm.met 𝓤 H 𝓜 𝓖 𝓡);
+          #borrowed·search-keys search-def.routine code.calls-borrowed·search-keys (search-thm.met 𝓤 H 𝓜 𝓖 𝓡);
     })

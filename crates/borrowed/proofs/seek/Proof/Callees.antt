@@ -36,7 +36,7 @@ use Rattle.borrowed.proofs.Sought as Sg
 use Rattle.records.proofs.rank as rank
 use Rattle.borrowed.proofs.Extent as Ex
 use Rattle.borrowed.proofs.extent_of as extent-of
-use Rattle.borrowed.proofs.search as searched
+use Rattle.borrowed.proofs.search_keys as searched
 
 abbrev pub Keys : Type 0
 Keys = RefT (List ℕ)

@@ -1,5 +1,5 @@
 -- The turn that leaves `borrowed::seek`'s loop, and the rest of its body: the borrow of the list is shut, the keys are lent to
--- `search` for a lifetime that is made for the call, and its answer is returned.
+-- `search_keys` for a lifetime that is made for the call, and its answer is returned.
 -- Assumes nothing.
 use mathlib.Core.Path.{_≡_, refl}
 use Prim.Native.Nat.{ℕ}
@@ -49,7 +49,7 @@ use Rattle.borrowed.proofs.Sought as Sg
 use Rattle.borrowed.proofs.Sought.Laws as Sg′
 use Rattle.borrowed.proofs.Extent as Ex
 use Rattle.borrowed.proofs.Extent.Laws as Ex′
-use Rattle.borrowed.proofs.search.Symbol.{name as #borrowed·search}
+use Rattle.borrowed.proofs.search_keys.Symbol.{name as #borrowed·search-keys}
 use Rattle.borrowed.proofs.seek.Code.Mir as mir
 use Rattle.borrowed.proofs.seek.Proof.Callees.{Keys, Row, Search, to-search, asks-search, gives-search, goes-search, search-said}
 use Rattle.borrowed.proofs.seek.Proof.Frame.{extents, Blocks, En, Post, exits, Turns}
@@ -58,7 +58,7 @@ module _
     {M : Type 1} (𝓤 : URA M) (H : Heap 𝓤) (A : Atoms 𝓤) (W : Given 𝓤 H A) (at-mem : Memory → SProp 𝓤) (run : Routine → Fun 𝓤)
     (κ : Lft) (q : Share) (s : RefT (List Source))
     (spelled : Is Ex.the-row (extentOf (length (s .now))) (extents (extentOf (length (s .now)))))
-    (𝓣 : Tables 𝓤 H) (known : Triple 𝓤 (𝓣 .C #borrowed·search) (Search 𝓤 H A at-mem run))
+    (𝓣 : Tables 𝓤 H) (known : Triple 𝓤 (𝓣 .C #borrowed·search-keys) (Search 𝓤 H A at-mem run))
     (q′ : Share) (B : Blocks) (f : Copied (s .now)) (test : ltb (f .i) (readOf (length (s .now))) ≡ false) where
   abbrev len : ℕ
   len = length (s .now)
@@ -101,7 +101,7 @@ module _
       owned ! Ex.the-row (Is Ex.the-row) (LL.makes Ex.the-type Ex′.the-plain 𝓤 H A) x (extents x) spelled $ move ! (1 ∷ 3 ∷ 0 ∷ []) $
       use3 W (asks-search 𝓤 H A at-mem run (α ∷ []) (lent-keys γ′) x v)
       (goes-search 𝓤 H A at-mem run W (α ∷ []) (lent-keys γ′) x v (read-inside len .1)) $
-      -- [what `search` asks; the lender's part; the list's token; _14; …]
+      -- [what `search_keys` asks; the lender's part; the list's token; _14; …]
       calls-at ! (fmOf 𝓤 H (W .laws) 𝓣) (Search 𝓤 H A at-mem run) known (to-search 𝓤 H A at-mem run (α ∷ []) (lent-keys γ′) x v)
       (and-then ! (local ! 3 refl) (and-then ! (local ! 24 refl) (no-more !))) (λ u.
       use1 W (gives-search 𝓤 H A at-mem run (α ∷ []) (lent-keys γ′) x u) (id⊢ 𝓤 _) $ await ! tt $ pick ! (λ r.

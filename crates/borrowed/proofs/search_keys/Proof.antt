@@ -1,10 +1,10 @@
--- `borrowed::search` meets its contract: the number is the extent's, position and ranges are what the tree over the keys finds.
+-- `borrowed::search_keys` meets its contract: the number is the extent's, position and ranges are what the tree over the keys finds.
 -- Assumes nothing.
 use native.Mathlib.Omega.{arith}
 use borrow.Author.Needs.{needs}
 use Rattle.borrowed.proofs.Searches.{found-inside, searched}
-use Rattle.borrowed.proofs.search.Statement.{statement}
-use Rattle.borrowed.proofs.search.Tie as tie
+use Rattle.borrowed.proofs.search_keys.Statement.{statement}
+use Rattle.borrowed.proofs.search_keys.Tie as tie
 
 marks-of-requires : tie.Need-marks-of-requires
 marks-of-requires c κs = search needs
@@ -21,5 +21,5 @@ returns c =
     let find = c .before .find in
     searched (args .keys .now) (args .e) (find .result) (c .position .result) (find .ensures) (c .position .ensures)
 
-pub search-spec : {M : Type 1} → statement M
-search-spec = tie.close (tie.spec marks-of-requires find-requires position-requires returns)
+pub search-keys-spec : {M : Type 1} → statement M
+search-keys-spec = tie.close (tie.spec marks-of-requires find-requires position-requires returns)
