@@ -42,6 +42,7 @@ static void *each_command(void *unused) {
 static void *lent_records(void *unused) {
     psic_core core = {0, {true, false, {1}, 1}};
     psic_highest_in(sources, PSIC_MAX_SOURCES);
+    psic_ranges_in(sources, PSIC_MAX_SOURCES);
     psic_claim_in_place(&core);
     return unused;
 }

@@ -25,6 +25,8 @@ pub enum Call {
     Run(Vec<Command>),
     /// The search over a lent list.
     HighestIn(Vec<Source>),
+    /// The ranges that this search looks into.
+    RangesIn(Vec<Source>),
     /// The claim of a lent record.
     ClaimInPlace(Core),
 }
@@ -192,14 +194,23 @@ impl<L: Model, R: Model> Comparison<'_, L, R> {
         })
     }
 
-    /// Puts both lent forms to 64 records each, of any content.
+    /// Puts the lent forms to 64 lists and records, of any content.
     pub fn borrowed_records(&self, random: &mut Random) -> Option<Difference> {
         let part = "lent records";
         (0..64).find_map(|index| {
             let sources = generate::borrowed_sources(random);
             let core = generate::borrowed_core(random);
-            self.highest_in(Place { part, index }, &sources)
+            self.lent_list(Place { part, index }, &sources)
                 .or_else(|| self.claim_in_place(Place { part, index }, core))
+        })
+    }
+
+    /// Puts both forms on a lent list to lists of every length up to a little over the longest.
+    pub fn lists_of_every_length(&self, random: &mut Random) -> Option<Difference> {
+        (0..=130).find_map(|length| {
+            let part = &format!("lists of {length}");
+            let mut lists = generate::lists_of(random, length).into_iter().enumerate();
+            lists.find_map(|(index, list)| self.lent_list(Place { part, index }, &list))
         })
     }
 
@@ -260,14 +271,24 @@ impl<L: Model, R: Model> Comparison<'_, L, R> {
         )
     }
 
-    fn highest_in(&self, place: Place, sources: &[Source]) -> Option<Difference> {
-        self.difference(
+    fn lent_list(&self, place: Place, sources: &[Source]) -> Option<Difference> {
+        let highest = self.difference(
             place,
             || Call::HighestIn(sources.to_vec()),
             without_cycles(self.left.highest_in(sources)),
             without_cycles(self.right.highest_in(sources)),
             HandedBack::NOTHING,
-        )
+        );
+        let ranges = || {
+            self.difference(
+                place,
+                || Call::RangesIn(sources.to_vec()),
+                without_cycles(self.left.ranges_in(sources)),
+                without_cycles(self.right.ranges_in(sources)),
+                HandedBack::NOTHING,
+            )
+        };
+        highest.or_else(ranges)
     }
 
     fn claim_in_place(&self, place: Place, lent: Core) -> Option<Difference> {

@@ -125,6 +125,55 @@ pub fn borrowed_sources(random: &mut Random) -> Vec<Source> {
         .collect()
 }
 
+/// Lists of one length to lend: no candidate, one, few, half, all but one, all; each at priorities
+/// that are all 0, and at any.
+pub fn lists_of(random: &mut Random, length: usize) -> Vec<Vec<Source>> {
+    let mut lists = Vec::new();
+    for spread in [0, u16::MAX] {
+        let mut chosen = vec![vec![false; length], vec![true; length]];
+        if length > 0 {
+            for all in [false, true] {
+                let mut one = vec![all; length];
+                one[random.below(length)] = !all;
+                chosen.push(one);
+            }
+        }
+        for times in [2, 16] {
+            chosen.push((0..length).map(|_| random.one_in(times)).collect());
+        }
+        lists.extend(
+            chosen
+                .iter()
+                .map(|chosen| list_with(random, chosen, spread)),
+        );
+    }
+    lists
+}
+
+/// A list whose candidates are those that are chosen; the others are idle, masked or delivered.
+fn list_with(random: &mut Random, chosen: &[bool], spread: u16) -> Vec<Source> {
+    let record = |&candidate: &bool| {
+        let flags = [
+            [false, true, false],
+            [false, false, false],
+            [true, true, false],
+            [false, true, true],
+        ];
+        let [masked, pending, delivered] = match candidate {
+            true => flags[0],
+            false => random.pick(&flags[1..]),
+        };
+        Source {
+            configured: random.any(),
+            masked,
+            pending,
+            delivered,
+            request: random.within(0..=spread),
+        }
+    };
+    chosen.iter().map(record).collect()
+}
+
 /// A core record to lend, whatever it holds. Most are filled and near a good one.
 pub fn borrowed_core(random: &mut Random) -> Core {
     let configured = match random.below(4) {

@@ -32,6 +32,9 @@ pub trait Model {
     /// The search over a lent list: number, then position plus one or 0.
     fn highest_in(&self, sources: &[Source]) -> (u8, u16);
 
+    /// The ranges that this search looks into: number, then how many.
+    fn ranges_in(&self, sources: &[Source]) -> (u8, u16);
+
     /// The claim of a lent core record: number and id.
     fn claim_in_place(&self, core: &mut Core) -> (u8, u16);
 }
@@ -65,6 +68,10 @@ impl Model for Reference {
 
     fn highest_in(&self, sources: &[Source]) -> (u8, u16) {
         reference::highest_in(sources)
+    }
+
+    fn ranges_in(&self, sources: &[Source]) -> (u8, u16) {
+        reference::ranges_in(sources)
     }
 
     fn claim_in_place(&self, core: &mut Core) -> (u8, u16) {

@@ -52,6 +52,12 @@ impl Model for Library {
         (found.number, found.position)
     }
 
+    fn ranges_in(&self, sources: &[Source]) -> (u8, u16) {
+        let list: Vec<psic::Source> = sources.iter().map(lent_source).collect();
+        let ranged = raw::ranges_in(&list);
+        (ranged.number, ranged.ranges)
+    }
+
     fn claim_in_place(&self, core: &mut Core) -> (u8, u16) {
         let mut lent = lent_core(core);
         let claimed = raw::claim_in_place(&mut lent);

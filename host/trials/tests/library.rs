@@ -48,6 +48,26 @@ fn the_typed_wrapper_agrees_with_the_reference() {
     }
 }
 
+/// Position and ranges of lent lists of 0 to 130 records, from no candidate to all.
+#[test]
+fn lists_of_every_length_agree_with_the_reference() {
+    fn compare<M: Model>(model: &M, seed: u64) {
+        let comparison = Comparison {
+            left: &Reference,
+            right: model,
+            seed,
+        };
+        let difference = comparison.lists_of_every_length(&mut Random::new(seed));
+        if let Some(difference) = difference {
+            panic!("{difference}");
+        }
+    }
+    for seed in run_seeds(20) {
+        compare(&Library, seed);
+        compare(&Wrapper, seed);
+    }
+}
+
 /// So that what the library's speed is compared with does the same work.
 #[test]
 fn the_fast_model_agrees_with_the_reference() {

@@ -4,7 +4,7 @@
 
 use std::cell::Cell;
 
-use psic::raw::{Claimed, Found, Report};
+use psic::raw::{Claimed, Found, Ranged, Report};
 use psic::{Core, Source, ANSWER_SIZE, COMMAND_SIZE, STATE_SIZE};
 
 /// What of a call's answer is altered, if the call was accepted.
@@ -21,6 +21,8 @@ pub enum Slip {
     RunState,
     SearchNumber,
     SearchPosition,
+    RangesNumber,
+    RangesCount,
     ClaimNumber,
     ClaimId,
     ClaimRecord,
@@ -42,7 +44,7 @@ pub enum Slip {
 
 impl Slip {
     /// Of the calls on a state and on lent records.
-    pub const OF_COMMANDS: [Slip; 14] = [
+    pub const OF_COMMANDS: [Slip; 16] = [
         Slip::MakeNumber,
         Slip::MakeState,
         Slip::ExecuteNumber,
@@ -54,6 +56,8 @@ impl Slip {
         Slip::RunState,
         Slip::SearchNumber,
         Slip::SearchPosition,
+        Slip::RangesNumber,
+        Slip::RangesCount,
         Slip::ClaimNumber,
         Slip::ClaimId,
         Slip::ClaimRecord,
@@ -123,6 +127,7 @@ extern "C" {
         answers_len: usize,
     ) -> u64;
     fn __real_psic_highest_in(list: *const Source, list_len: usize) -> Found;
+    fn __real_psic_ranges_in(list: *const Source, list_len: usize) -> Ranged;
     fn __real_psic_claim_in_place(core: *mut Core) -> Claimed;
     fn __real_psic_read(
         text: *const u8,
@@ -232,6 +237,19 @@ unsafe extern "C" fn __wrap_psic_highest_in(list: *const Source, list_len: usize
         found.number = 2;
     }
     found
+}
+
+#[no_mangle]
+unsafe extern "C" fn __wrap_psic_ranges_in(list: *const Source, list_len: usize) -> Ranged {
+    // SAFETY: the arguments are passed on as they came.
+    let mut ranged = unsafe { __real_psic_ranges_in(list, list_len) };
+    if ranged.number == 0 && slips(Slip::RangesCount) {
+        ranged.ranges += 1;
+    }
+    if ranged.number == 0 && slips(Slip::RangesNumber) {
+        ranged.number = 2;
+    }
+    ranged
 }
 
 #[no_mangle]

@@ -1,4 +1,4 @@
--- A turn of `borrowed::psic_highest_in`'s loop that copies one rank: the record is read through the open borrow and passed to `rank`, and
+-- A turn of `borrowed::seek`'s loop that copies one rank: the record is read through the open borrow and passed to `rank`, and
 -- the answer is stored among the keys.
 -- Assumes nothing.
 use mathlib.Core.Path.{_≡_, refl, sym}
@@ -43,8 +43,8 @@ use Rattle.borrowed.proofs.Filling.{Copied, Further, read-inside, one-m
 use Rattle.model.proofs.Source as So
 use Rattle.model.proofs.Source.Laws as So′
 use Rattle.records.proofs.rank.Symbol.{name as #records·rank}
-use Rattle.borrowed.proofs.psic_highest_in.Proof.Callees.{Rank, to-rank, asks-rank, gives-rank, goes-rank, rank-said}
-use Rattle.borrowed.proofs.psic_highest_in.Proof.Frame.{Blocks, At, Turns}
+use Rattle.borrowed.proofs.seek.Proof.Callees.{Rank, to-rank, asks-rank, gives-rank, goes-rank, rank-said}
+use Rattle.borrowed.proofs.seek.Proof.Frame.{Blocks, At, Turns}
 
 -- how a record is spelled in memory
 abbrev pub sources : Source → List Val

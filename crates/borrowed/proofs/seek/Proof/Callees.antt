@@ -1,4 +1,4 @@
--- What `borrowed::psic_highest_in` knows of the three functions that it calls: that each meets its contract. For each: the contract, what
+-- What `borrowed::seek` knows of the three functions that it calls: that each meets its contract. For each: the contract, what
 -- the call is passed, asks and gives, the clause that its `ensures` states, and what it asks made of what is had.
 -- Assumes nothing.
 use mathlib.Core.Path.{_≡_}
@@ -26,17 +26,17 @@ use denote.Triple.Spec.{tripleOf}
 use denote.Triple.Clauses.{ensured, lasts}
 use denote.Triple.Walked.{says}
 use Rattle.model.specs.declared.Source.{Source}
-use Rattle.model.specs.declared.Found.{Found}
 use Rattle.model.specs.Records.{maxSources}
 use Rattle.model.specs.Arbitration.{rank as rankOf}
 use Rattle.borrowed.specs.declared.Extent.{Extent}
-use Rattle.borrowed.specs.Keys.{extentOf, FoundByKeys}
+use Rattle.borrowed.specs.declared.Sought.{Sought}
+use Rattle.borrowed.specs.Keys.{extentOf, SoughtByKeys}
 use Rattle.model.proofs.Source as So
-use Rattle.model.proofs.Found as Fo
+use Rattle.borrowed.proofs.Sought as Sg
 use Rattle.records.proofs.rank as rank
 use Rattle.borrowed.proofs.Extent as Ex
 use Rattle.borrowed.proofs.extent_of as extent-of
-use Rattle.borrowed.proofs.search as searched
+use Rattle.borrowed.proofs.search_keys as searched
 
 abbrev pub Keys : Type 0
 Keys = RefT (List ℕ)
@@ -82,7 +82,7 @@ module _ {M : Type 1} (𝓤 : URA M) (H : Heap 𝓤) (A : Atoms 𝓤) (at-mem : 
   abbrev pub Ranks : Source → ℕ → SProp 𝓤
   Ranks r k = ensured 𝓤 H A rank.ended (rank.clauses 𝓤 H A at-mem run) tt (r, tt) tt k
 
-  abbrev pub Finds : Lft → Keys → Extent → Found → SProp 𝓤
+  abbrev pub Finds : Lft → Keys → Extent → Sought → SProp 𝓤
   Finds κ ks e r = ensured 𝓤 H A searched.ended (searched.clauses 𝓤 H A at-mem run) (κ, tt) (ks, (e, tt)) tt r
 
   -- what each gives: an answer, of which that is ensured
@@ -94,7 +94,7 @@ module _ {M : Type 1} (𝓤 : URA M) (H : Heap 𝓤) (A : Atoms 𝓤) (at-mem : 
 
   abbrev pub gives-search : Lft → Keys → Extent → Val → Item 𝓤
   gives-search κ ks e v =
-      later (some (λ (r : Found). ((‵ (flft κ fullShare) ⊛ ‵ ftrue) ⊛ ‵ (Fo.the-row .own r (v ∷ []))) ⊛ raw (Finds κ ks e r)))
+      later (some (λ (r : Sought). ((‵ (flft κ fullShare) ⊛ ‵ ftrue) ⊛ ‵ (Sg.the-row .own r (v ∷ []))) ⊛ raw (Finds κ ks e r)))
 
   -- of what each ensures, the clause alone: none has a `&mut`, so what is said of last values is dropped
   pub extent-said : (len : ℕ) (e : Extent) → ent 𝓤 (Extents len e) (fact 𝓤 (e ≡ extentOf len))
@@ -103,9 +103,9 @@ module _ {M : Type 1} (𝓤 : URA M) (H : Heap 𝓤) (A : Atoms 𝓤) (at-mem : 
   pub rank-said : (r : Source) (k : ℕ) → ent 𝓤 (Ranks r k) (fact 𝓤 (k ≡ rankOf r))
   rank-said r k = exE 𝓤 _ (λ ws. snd∗ 𝓤 (sem 𝓤 H A (lasts rank.ended tt (r, tt) ws)) (fact 𝓤 (k ≡ rankOf r)))
 
-  pub search-said : (κ : Lft) (ks : Keys) (e : Extent) (r : Found) → ent 𝓤 (Finds κ ks e r) (fact 𝓤 (FoundByKeys (ks .now) e r))
+  pub search-said : (κ : Lft) (ks : Keys) (e : Extent) (r : Sought) → ent 𝓤 (Finds κ ks e r) (fact 𝓤 (SoughtByKeys (ks .now) e r))
   search-said κ ks e r =
-      exE 𝓤 _ (λ ws. snd∗ 𝓤 (sem 𝓤 H A (lasts searched.ended (κ, tt) (ks, (e, tt)) ws)) (fact 𝓤 (FoundByKeys (ks .now) e r)))
+      exE 𝓤 _ (λ ws. snd∗ 𝓤 (sem 𝓤 H A (lasts searched.ended (κ, tt) (ks, (e, tt)) ws)) (fact 𝓤 (SoughtByKeys (ks .now) e r)))
 
   -- what each asks, made of what is had
   module _ (W : Given 𝓤 H A) where

@@ -1,4 +1,4 @@
--- What `borrowed::psic_highest_in` has in hand between two turns of its loop, and how the function ends. The borrow of the list is looked
+-- What `borrowed::seek` has in hand between two turns of its loop, and how the function ends. The borrow of the list is looked
 -- into once, before the loop, and shut once, after it.
 -- Assumes nothing.
 use mathlib.Core.Path.{_≡_}
@@ -30,22 +30,21 @@ use denote.Struct.Laws as LL
 use denote.Triple.Walked.{says, Stays, stay-none-slice, walkOf, ends-at}
 use denote.Exit.{yes}
 use Rattle.model.specs.declared.Source.{Source}
-use Rattle.model.specs.declared.Found.{Found}
 use Rattle.model.specs.Records.{maxSources}
-use Rattle.borrowed.specs.Lent.{foundIn}
 use Rattle.borrowed.specs.declared.Extent.{Extent}
-use Rattle.borrowed.specs.Keys.{extentOf}
+use Rattle.borrowed.specs.declared.Sought.{Sought}
+use Rattle.borrowed.specs.Keys.{extentOf, SoughtIn}
 use Rattle.borrowed.proofs.Filling.{Copied, Further}
 use Rattle.model.proofs.Source as So
 use Rattle.model.proofs.Source.Laws as So′
-use Rattle.model.proofs.Found as Fo
-use Rattle.model.proofs.Found.Laws as Fo′
+use Rattle.borrowed.proofs.Sought as Sg
+use Rattle.borrowed.proofs.Sought.Laws as Sg′
 use Rattle.borrowed.proofs.Extent as Ex
 use Rattle.borrowed.proofs.Extent.Laws as Ex′
-use Rattle.borrowed.proofs.psic_highest_in as highest-in
-use Rattle.borrowed.proofs.psic_highest_in.Code.Mir as mir
+use Rattle.borrowed.proofs.seek as seek
+use Rattle.borrowed.proofs.seek.Code.Mir as mir
 
-abbrev pub stayed : Stays (highest-in.ended .signature .params) (highest-in.ended .kept)
+abbrev pub stayed : Stays (seek.ended .signature .params) (seek.ended .kept)
 stayed = (stay-none-slice (0 ∷ []) tt (plain (λ _. So.the-row)) yes, tt)
 
 -- ---- the types of the locals
@@ -88,7 +87,7 @@ pub record Blocks : Type 0 where
 
 abbrev pub En : {M : Type 1} (𝓤 : URA M) (H : Heap 𝓤) → Blocks → Env 𝓤 H
 En 𝓤 H B =
-    (Fo′.mir, B .l₀) ∷ (slice, B .l₁) ∷ (word, B .l₂) ∷ (Ex′.mir, B .l₃) ∷ (keys, B .l₄) ∷
+    (Sg′.mir, B .l₀) ∷ (slice, B .l₁) ∷ (word, B .l₂) ∷ (Ex′.mir, B .l₃) ∷ (keys, B .l₄) ∷
     (word, B .l₅) ∷ (tyBool, B .l₆) ∷ (key, B .l₇) ∷ (word, B .l₈) ∷ (tyPtr, B .l₉) ∷
     (So′.mir, B .l₁₀) ∷ (word, B .l₁₁) ∷ (tyPtr, B .l₁₂) ∷ (tyPtr, B .l₁₃) ∷ (lent, B .l₁₄) ∷ []
 
@@ -123,25 +122,25 @@ module _ (κ : Lft) (q : Share) (s : RefT (List Source)) where
       ‵ (fat fullShare Ex′.mir (B .l₃) 0 (only (extents (extentOf (length (s .now)))))) ∷ ‵ (fdies Ex′.mir (B .l₃)) ∷
       ‵ (fat fullShare word (B .l₂) 0 (vint w64 (length (s .now)))) ∷ ‵ (fdies word (B .l₂)) ∷
       ‵ (fat fullShare slice (B .l₁) 0 v) ∷ ‵ (fdies slice (B .l₁)) ∷
-      ‵ (froom Fo′.mir (B .l₀) 0) ∷ ‵ (fdies Fo′.mir (B .l₀)) ∷
+      ‵ (froom Sg′.mir (B .l₀) 0) ∷ ‵ (fdies Sg′.mir (B .l₀)) ∷
       ‵ (Opened q′) ∷ ‵ Own ∷ []
 
 module _
     {M : Type 1} (𝓤 : URA M) (H : Heap 𝓤) (A : Atoms 𝓤) (W : Given 𝓤 H A) (at-mem : Memory → SProp 𝓤) (run : Routine → Fun 𝓤)
     (κ : Lft) (q : Share) (s : RefT (List Source)) where
   -- what the function's triple binds, and what it has to show of the value that it returns
-  abbrev pub bound : walkOf 𝓤 H A highest-in.ended stayed (highest-in.clauses 𝓤 H A at-mem run) .Ghost
+  abbrev pub bound : walkOf 𝓤 H A seek.ended stayed (seek.clauses 𝓤 H A at-mem run) .Ghost
   bound = (((κ, tt), (q, tt), tt, (s, tt), (v κ q s ∷ [], tt)), tt)
 
   abbrev pub Post : Val → SProp 𝓤
-  Post = walkOf 𝓤 H A highest-in.ended stayed (highest-in.clauses 𝓤 H A at-mem run) .post bound
+  Post = walkOf 𝓤 H A seek.ended stayed (seek.clauses 𝓤 H A at-mem run) .post bound
 
   pub exits :
-      (r : Found) (u : Val) → r ≡ foundIn (s .now) →
-      ent 𝓤 (⋆ 𝓤 H A (‵ (Fo.the-row .own r (u ∷ [])) ∷ ‵ (flft κ q) ∷ ‵ (Own κ q s) ∷ [])) (Post u)
+      (r : Sought) (u : Val) → SoughtIn (s .now) r →
+      ent 𝓤 (⋆ 𝓤 H A (‵ (Sg.the-row .own r (u ∷ [])) ∷ ‵ (flft κ q) ∷ ‵ (Own κ q s) ∷ [])) (Post u)
   exits r u e =
-      qed W (‵ (Fo.the-row .own r (u ∷ [])) ∷ ‵ (flft κ q) ∷ ‵ (Own κ q s) ∷ []) ∵
-      suffices ! _ (ends-at 𝓤 H A highest-in.ended stayed (highest-in.clauses 𝓤 H A at-mem run) W bound u r (tt, tt) (tt, tt)) $
+      qed W (‵ (Sg.the-row .own r (u ∷ [])) ∷ ‵ (flft κ q) ∷ ‵ (Own κ q s) ∷ []) ∵
+      suffices ! _ (ends-at 𝓤 H A seek.ended stayed (seek.clauses 𝓤 H A at-mem run) W bound u r (tt, tt) (tt, tt)) $
       says ! e $ nothing ! $ move ! (2 ∷ 0 ∷ []) $ join ! $ frame ! $ nothing ! $ move ! (2 ∷ 0 ∷ []) $ fjoin ! $ frame ! $ done !
 
   module _ (𝓣 : Tables 𝓤 H) (q′ : Share) (B : Blocks) where

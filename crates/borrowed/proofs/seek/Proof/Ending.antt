@@ -1,5 +1,5 @@
--- The turn that leaves `borrowed::psic_highest_in`'s loop, and the rest of its body: the borrow of the list is shut, the keys are lent to
--- `search` for a lifetime that is made for the call, and its answer is returned.
+-- The turn that leaves `borrowed::seek`'s loop, and the rest of its body: the borrow of the list is shut, the keys are lent to
+-- `search_keys` for a lifetime that is made for the call, and its answer is returned.
 -- Assumes nothing.
 use mathlib.Core.Path.{_≡_, refl}
 use Prim.Native.Nat.{ℕ}
@@ -41,24 +41,24 @@ use denote.Triple.Call.{calls-at}
 use Rattle.model.specs.declared.Source.{Source}
 use Rattle.model.specs.Records.{maxSources}
 use Rattle.borrowed.specs.declared.Extent.{Extent}
-use Rattle.borrowed.specs.Keys.{extentOf, readOf, FoundByKeys}
+use Rattle.borrowed.specs.Keys.{extentOf, readOf, SoughtByKeys}
 use Rattle.borrowed.proofs.Locals.{local, field-of, fills, lands-in}
 use Rattle.borrowed.proofs.Filling.{Copied, read-inside, all-copied}
 use Rattle.model.proofs.Source as So
-use Rattle.model.proofs.Found as Fo
-use Rattle.model.proofs.Found.Laws as Fo′
+use Rattle.borrowed.proofs.Sought as Sg
+use Rattle.borrowed.proofs.Sought.Laws as Sg′
 use Rattle.borrowed.proofs.Extent as Ex
 use Rattle.borrowed.proofs.Extent.Laws as Ex′
-use Rattle.borrowed.proofs.search.Symbol.{name as #borrowed·search}
-use Rattle.borrowed.proofs.psic_highest_in.Code.Mir as mir
-use Rattle.borrowed.proofs.psic_highest_in.Proof.Callees.{Keys, Row, Search, to-search, asks-search, gives-search, goes-search, search-said}
-use Rattle.borrowed.proofs.psic_highest_in.Proof.Frame.{extents, Blocks, En, Post, exits, Turns}
+use Rattle.borrowed.proofs.search_keys.Symbol.{name as #borrowed·search-keys}
+use Rattle.borrowed.proofs.seek.Code.Mir as mir
+use Rattle.borrowed.proofs.seek.Proof.Callees.{Keys, Row, Search, to-search, asks-search, gives-search, goes-search, search-said}
+use Rattle.borrowed.proofs.seek.Proof.Frame.{extents, Blocks, En, Post, exits, Turns}
 
 module _
     {M : Type 1} (𝓤 : URA M) (H : Heap 𝓤) (A : Atoms 𝓤) (W : Given 𝓤 H A) (at-mem : Memory → SProp 𝓤) (run : Routine → Fun 𝓤)
     (κ : Lft) (q : Share) (s : RefT (List Source))
     (spelled : Is Ex.the-row (extentOf (length (s .now))) (extents (extentOf (length (s .now)))))
-    (𝓣 : Tables 𝓤 H) (known : Triple 𝓤 (𝓣 .C #borrowed·search) (Search 𝓤 H A at-mem run))
+    (𝓣 : Tables 𝓤 H) (known : Triple 𝓤 (𝓣 .C #borrowed·search-keys) (Search 𝓤 H A at-mem run))
     (q′ : Share) (B : Blocks) (f : Copied (s .now)) (test : ltb (f .i) (readOf (length (s .now))) ≡ false) where
   abbrev len : ℕ
   len = length (s .now)
@@ -101,20 +101,20 @@ module _
       owned ! Ex.the-row (Is Ex.the-row) (LL.makes Ex.the-type Ex′.the-plain 𝓤 H A) x (extents x) spelled $ move ! (1 ∷ 3 ∷ 0 ∷ []) $
       use3 W (asks-search 𝓤 H A at-mem run (α ∷ []) (lent-keys γ′) x v)
       (goes-search 𝓤 H A at-mem run W (α ∷ []) (lent-keys γ′) x v (read-inside len .1)) $
-      -- [what `search` asks; the lender's part; the list's token; _14; …]
+      -- [what `search_keys` asks; the lender's part; the list's token; _14; …]
       calls-at ! (fmOf 𝓤 H (W .laws) 𝓣) (Search 𝓤 H A at-mem run) known (to-search 𝓤 H A at-mem run (α ∷ []) (lent-keys γ′) x v)
       (and-then ! (local ! 3 refl) (and-then ! (local ! 24 refl) (no-more !))) (λ u.
       use1 W (gives-search 𝓤 H A at-mem run (α ∷ []) (lent-keys γ′) x u) (id⊢ 𝓤 _) $ await ! tt $ pick ! (λ r.
       split ! $ move ! (1 ∷ []) $
-      use1 W (raw (fact 𝓤 (FoundByKeys ks x r))) (search-said 𝓤 H A at-mem run (α ∷ []) (lent-keys γ′) x r) $
-      heard ! (FoundByKeys ks x r) (λ e. split ! $ split ! $
+      use1 W (raw (fact 𝓤 (SoughtByKeys ks x r))) (search-said 𝓤 H A at-mem run (α ∷ []) (lent-keys γ′) x r) $
+      heard ! (SoughtByKeys ks x r) (λ e. split ! $ split ! $
       -- [the call's token; true; the answer; the lender's part; the list's token; _14; …]
       lft-end ! tt $ move ! (0 ∷ 3 ∷ []) $ lent-back ! tt $ fpick ! (λ vs. fsplit ! $
       spelt ! Row (Is Row) (shows 𝓤 H A Row) (array-vals (uint-vals w32)) (array-tells u32 (uint-vals w32) (uint-tells w32) maxSources)
       fullShare ks vs (B .l₄) 0 $ move ! (1 ∷ []) $ drop ! $ move ! (1 ∷ []) $ drop ! $ move ! (1 ∷ []) $
       -- [the answer; the keys; the list's token; _14; …]
-      peeks ! Fo.the-row (Is Fo.the-row) (shows 𝓤 H A Fo.the-row) r (u ∷ []) (λ is.
-      lands-in ! 30 refl (LL.lawful Fo.the-type Fo′.the-laws 𝓤 H A W .typed r _ is .0) $
+      peeks ! Sg.the-row (Is Sg.the-row) (shows 𝓤 H A Sg.the-row) r (u ∷ []) (λ is.
+      lands-in ! 30 refl (LL.lawful Sg.the-type Sg′.the-laws 𝓤 H A W .typed r _ is .0) $
       returns ! (look ! 30 refl) $ forget ! 1 refl $ forget ! 3 refl $ forget ! 19 refl $ forget ! 21 refl $
       forget ! 24 refl $ forget ! 26 refl $ forget ! 28 refl $ forget ! 30 refl $
       move ! (30 ∷ 31 ∷ []) $ free1 ! $ move ! (28 ∷ 29 ∷ []) $ free1 ! $ move ! (26 ∷ 27 ∷ []) $ free1 ! $
