@@ -21,7 +21,7 @@ use Rattle.arbitration.proofs.Tree.{highest-below}
 use Rattle.arbitration.proofs.LeastCore.{least-below}
 use Rattle.arbitration.proofs.Told.{Told, least-told, highest-told}
 use Rattle.settling.specs.Phases.{Delivering}
-use Rattle.settling.specs.Runs.{reachedWith, AfterDeliveries}
+use Rattle.settling.specs.Runs.{AfterDeliveries}
 use Rattle.settling.proofs.Next.{Contest, topSource, lowCore, contest, next-clean}
 use Rattle.settling.proofs.Arbitrated.{Arbitrated}
 use Rattle.settling.proofs.Deliver.{deliver-consistent, deliver-delivering}
@@ -133,13 +133,13 @@ module _ {b b′ keys ranks : List ℕ} {t : ℕ} (d : DeliveredTo (stateFrom b)
   unfolding cyclesOf
   delivered-rest rest = record { held = d .held; after = after; few = d .within }
     where
-      after : AfterDeliveries (stateFrom b) 0 (reachedWith (stateFrom b′) t)
+      after : AfterDeliveries (stateFrom b) (stateFrom b′) t
       after f h =
           let s : Controller = stateFrom b in
           let rests : next (settle t s) ≡ Rest = rw (← d .ran .state-is) rest in
           let more : t ≤ f = omega (arith, d .within) in
           let cycles-there : cyclesOf f s ≡ t = omega (arith, cyclesOf-beyond s t rests f more, d .ran .counted, cyclesOf-le t s) in
-          ap₂ reachedWith (d .ran .state-is ∙ sym (settle-beyond s t rests f more)) (omega (arith, cycles-there))
+          (d .ran .state-is ∙ sym (settle-beyond s t rests f more), sym cycles-there)
 
   pub delivered-all : {keys₀ ranks₀ : List ℕ} → Undelivered b keys₀ ranks₀ → (stateFrom b) .m ≤ t → Delivered b t b′ keys ranks
   delivered-all p h =

@@ -19,10 +19,10 @@ use Rattle.model.specs.WellFormed.{Holding, Consistent}
 use Rattle.model.specs.Settling.{putBack, retract}
 use Rattle.lists.proofs.Bools.{clash, refuted}
 use Rattle.settling.specs.Phases.{AllDirty}
-use Rattle.settling.specs.Runs.{reachedWith, AfterRetractions}
+use Rattle.settling.specs.Runs.{AfterRetractions}
 use Rattle.settling.proofs.Writes.{core-retract-same, core-retract-other}
 use Rattle.settling.proofs.Forward.{ran-m}
-use Rattle.settling.proofs.Retracting.{Retracting, retracting-none, retracting-clean, retracted, retracting-all}
+use Rattle.settling.proofs.Retracting.{Retracting, retracting-none, retracting-clean, retracting-dirty, retracting-all}
 use Rattle.layout.specs.Bytes.{stateFrom}
 use Rattle.in_place.specs.Held.{Held, Names, Retracts}
 use Rattle.in_place.proofs.Stored.{held-back, held-here, read-core}
@@ -118,7 +118,7 @@ module _ {s : Controller} {b keys ranks : List ℕ} {x k : ℕ} (e : Emptying s 
     emptying-filled f {b′} {keys′} {ranks′} done =
         let after : Held (retract u k) b′ keys′ ranks′ = done u (e .held) read in
         let more : Retracting (soiledAll s) (retract (soiledAll u) k) (x + 1) (k + 1) =
-        retracted (soiledAll s) (soiledAll u) x k (e .turn) k-lt (marked ∙ f) in
+        retracting-dirty (soiledAll s) (soiledAll u) x k (e .turn) k-lt (marked ∙ f) in
         record {
           held = held-here after;
           clean =
@@ -134,19 +134,19 @@ module _ {s : Controller} {b keys ranks : List ℕ} {x k : ℕ} (e : Emptying s 
         record {
           held = e .held;
           clean = e .clean;
-          turn = retracting-clean (soiledAll s) (soiledAll u) x k (e .turn) k-lt (marked ∙ f) (soiledAll u) x refl refl;
+          turn = retracting-clean (soiledAll s) (soiledAll u) x k (e .turn) k-lt (marked ∙ f);
         }
 
 pub emptying-all :
     {b b′ keys ranks : List ℕ} {x k : ℕ} → Emptying (stateFrom b) b′ keys ranks x k → (stateFrom b) .m ≤ k → Emptied b x b′ keys ranks
 emptying-all {b} {b′} {keys} {ranks} {x} {k} e all =
     let u : Controller = stateFrom b′ in
-    let after : AfterRetractions (soiledAll (stateFrom b)) (reachedWith (soiledAll u) x) =
+    let after : AfterRetractions (soiledAll (stateFrom b)) (soiledAll u) x =
     retracting-all (soiledAll (stateFrom b)) (soiledAll u) x k (e .turn) all in
     record {
       held = e .held;
       after =
-          subst (λ (v : Controller). AfterRetractions (soiledAll (stateFrom b)) (reachedWith v x))
+          subst (λ (v : Controller). AfterRetractions (soiledAll (stateFrom b)) v x)
           (soiled-none u (e .clean) (λ j h. empty j h (decLt j (u .m)))) after;
     }
   where

@@ -5,8 +5,6 @@ use mathlib.Core.List.{List}
 use native.Mathlib.Omega.{arith}
 use Rattle.model.specs.declared.Controller.{Controller}
 use Rattle.model.specs.Settling.{settle, cyclesOf}
-use Rattle.settling.specs.declared.Reached.{Reached}
-use Rattle.settling.specs.Runs.{reachedWith}
 use Rattle.settling.proofs.Determined.{after-settles, after-counts}
 use Rattle.layout.specs.Bytes.{stateFrom}
 use Rattle.in_place.specs.Held.{Held}
@@ -22,13 +20,13 @@ module _ {b b₁ keys₁ ranks₁ : List ℕ} {x : ℕ} (e : Emptied b x b₁ ke
       let s : Controller = soiledAll (stateFrom b) in
       let f : ℕ = 2 * s .m - x in
       let all : x + f ≡ 2 * s .m = omega (arith, e .after .cycles-le) in
-      let there : reachedWith (stateFrom b₂) y ≡ reachedWith (settle f (stateFrom b₁)) (0 + cyclesOf f (stateFrom b₁))
+      let (state-is, count-is) : (stateFrom b₂ ≡ settle f (stateFrom b₁)) × (y ≡ cyclesOf f (stateFrom b₁))
       = d .after f (omega (arith, e .after .cycles-le, e .after .m-same)) in
       let reached : stateFrom b₂ ≡ settle (2 * s .m) s
-      = ap (λ (r : Reached). r .state) there ∙ sym (after-settles (e .after) f) ∙ ap (λ (g : ℕ). settle g s) all in
+      = state-is ∙ sym (after-settles (e .after) f) ∙ ap (λ (g : ℕ). settle g s) all in
       let counted : cyclesOf (x + f) s ≡ x + cyclesOf f (stateFrom b₁) = after-counts (e .after) f in
       record {
         held = subst (λ (u : Controller). Held u b₂ keys₂ ranks₂) reached (d .held);
         cycles-are =
-            omega (arith, ap (λ (r : Reached). r .cycles) there, counted) ∙ ap (λ (g : ℕ). cyclesOf g s) all;
+            omega (arith, count-is, counted) ∙ ap (λ (g : ℕ). cyclesOf g s) all;
       }

@@ -13,7 +13,7 @@ use Rattle.model.specs.WellFormed.{Consistent}
 use Rattle.model.specs.Settling.{settle, cyclesOf}
 use Rattle.model.specs.Commands.{soiled}
 use Rattle.settling.specs.Phases.{Delivering}
-use Rattle.settling.specs.Runs.{reachedWith, AfterRetractions, AfterDeliveries}
+use Rattle.settling.specs.Runs.{AfterRetractions, AfterDeliveries}
 use Rattle.layout.specs.Bytes.{stateFrom}
 use Rattle.in_place.specs.Held.{Held}
 
@@ -31,7 +31,7 @@ pub record Soiled (b keys ranks : List ℕ) : Type 0 where
 
 pub record Emptied (b : List ℕ) (x : ℕ) (b′ keys′ ranks′ : List ℕ) : Type 0 where
   pub held : Held (stateFrom b′) b′ keys′ ranks′
-  pub after : AfterRetractions (soiledAll (stateFrom b)) (reachedWith (stateFrom b′) x)
+  pub after : AfterRetractions (soiledAll (stateFrom b)) (stateFrom b′) x
 
 pub record Undelivered (b keys ranks : List ℕ) : Type 0 where
   pub held : Held (stateFrom b) b keys ranks
@@ -40,7 +40,7 @@ pub record Undelivered (b keys ranks : List ℕ) : Type 0 where
 
 pub record Delivered (b : List ℕ) (x : ℕ) (b′ keys′ ranks′ : List ℕ) : Type 0 where
   pub held : Held (stateFrom b′) b′ keys′ ranks′
-  pub after : AfterDeliveries (stateFrom b) 0 (reachedWith (stateFrom b′) x)
+  pub after : AfterDeliveries (stateFrom b) (stateFrom b′) x
   pub few : x ≤ (stateFrom b) .m
 
 pub record Settled (s : Controller) (x : ℕ) (b′ keys′ ranks′ : List ℕ) : Type 0 where
