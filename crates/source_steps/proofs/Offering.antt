@@ -1,5 +1,4 @@
 -- One request offered to the least core, on the bytes of a state. Assumes nothing.
---   held-length                  the bytes of a state that is held have a state's length
 --   above-by-number              a source's number tells whether its request interrupts a core
 --   core-fits, names-one         the core that the least number tells, and what its box names
 --   offer-rests, offer-delivers  a request that isn't above it changes nothing; one that is is delivered there
@@ -31,9 +30,6 @@ use Rattle.in_place.specs.declared.Outcome.{Outcome}
 use Rattle.in_place.specs.Held.{corePlace, Held, Names, Delivers}
 use Rattle.in_place.specs.Steps.{Says, Leaves}
 use Rattle.source_steps.specs.Offers.{Offered}
-
-pub held-length : {s : Controller} {b keys ranks : List ℕ} → Held s b keys ranks → length b ≡ stateSize
-held-length {s} h = ap length (h .bytes-are) ∙ state-length s (h .sized)
 
 above-by-number : (c : Core) (r : Source) (i : ℕ) → interruptedBy c r ≡ ltb (currentPriority c) (priorityOf (rankAt i r))
 above-by-number c r i = go (flag (candidate r))

@@ -19,7 +19,6 @@ use Rattle.model.specs.declared.SourceId.{SourceId}
 use Rattle.model.specs.declared.Source.{Source}
 use Rattle.model.specs.declared.Controller.{Controller}
 use Rattle.model.specs.declared.Answer.{Answer}
-use Rattle.model.specs.declared.Command.{Command}
 use Rattle.model.specs.declared.Command.the-variants.{OnSource}
 use Rattle.model.specs.declared.SourceAction.{SourceAction}
 use Rattle.model.specs.Records.{maxSources, maxCores, noSource, indexOf, sourceAt, withSource, answer}
@@ -36,12 +35,12 @@ use Rattle.effects.proofs.Answers.{at-name, at-later, free}
 use Rattle.effects.proofs.OneDelivery.{one-delivery}
 use Rattle.layout.specs.Bytes.{wordAt, sourceBytes, sourceFrom, stateFrom}
 use Rattle.layout.proofs.InPlace.{source-read}
-use Rattle.layout.proofs.RoundTrip.{state-read-back}
 use Rattle.in_place.specs.declared.Outcome.{Outcome}
 use Rattle.in_place.specs.Held.{sourcePlace, Held}
 use Rattle.in_place.specs.Steps.{Says, Ready, Leaves, Executed}
 use Rattle.in_place.proofs.Numbering.{sizes-read}
-use Rattle.in_place.proofs.Stored.{held-source}
+use Rattle.in_place.proofs.Refused.{refused}
+use Rattle.in_place.proofs.Stored.{held-back, held-source}
 use Rattle.source_steps.specs.Offers.{Offered}
 
 -- The id is a source's, m the number of cores, r the record, and k the number of the checks after that of the id.
@@ -61,9 +60,6 @@ module _ {b keys ranks : List ℕ} (p : Ready b keys ranks) where
   tested : wellFormed s ≡ true
   tested = wellFormed-in s (p .sound)
 
-  refused : (d : Command) {k : ℕ} {o : Outcome} → answer s k 0 0 ≡ execute s d → Says o k 0 0 → Executed b d o b keys ranks
-  refused d {k} {o} e says = subst (λ (y : Answer). Leaves y o b keys ranks) e (record { says = says; held = p .held })
-
   pub named-by :
       (id : SourceId) {n : ℕ} {t y : Bool} → n ≡ wordAt b 0 → t ≡ between 1 n (id .0) → t ≡ y → namesSource s id ≡ y
   named-by id read-n asked is = rw (read-n ∙ sizes-read b .0) at (sym asked ∙ is)
@@ -71,7 +67,7 @@ module _ {b keys ranks : List ℕ} (p : Ready b keys ranks) where
   pub bad-source :
       (id : SourceId) (a : SourceAction) {o : Outcome} → namesSource s id ≡ false → Says o 4 0 0 →
       Executed b (OnSource id a) o b keys ranks
-  bad-source id a e says = refused (OnSource id a) (at-name s (OnSource id a) tested e) says
+  bad-source id a e says = refused (p .held) (OnSource id a) (at-name s (OnSource id a) tested e) says
 
   module _ (id : SourceId) (named : namesSource s id ≡ true) where
     range : (1 ≤ id .0) × (id .0 ≤ s .n)
@@ -100,7 +96,7 @@ module _ {b keys ranks : List ℕ} (p : Ready b keys ranks) where
 
   module _ {id : SourceId} {a : SourceAction} {m k : ℕ} {r : Source} (l : Looked s id a m r k) where
     pub refused-later : {o : Outcome} → k ≢ 0 → Says o k 0 0 → Executed b (OnSource id a) o b keys ranks
-    refused-later h says = refused (OnSource id a) (at-later s (OnSource id a) tested (l .named) k (l .number-found) h) says
+    refused-later h says = refused (p .held) (OnSource id a) (at-later s (OnSource id a) tested (l .named) k (l .number-found) h) says
 
     -- the record q is stored
     module _ (passes : k ≡ 0) {q : Source} (new : q ≡ sourceAfter a r) {b₁ ranks₁ : List ℕ}
@@ -119,7 +115,7 @@ module _ {b keys ranks : List ℕ} (p : Ready b keys ranks) where
       held = held-source (p .held) i (in-array id (l .named)) q (stored .0) (stored .1)
 
       back : stateFrom b₁ ≡ withSource s i q
-      back = ap stateFrom (held .bytes-are) ∙ state-read-back (withSource s i q) (held .sized)
+      back = held-back held
 
       pub offered : Offered (stateFrom b₁) b₁ keys ranks₁ m i q
       offered =

@@ -1,7 +1,8 @@
 -- `source_steps::offer` meets its contract: the two numbers tell whether the definition delivers. Assumes nothing.
 use native.Mathlib.Omega.{arith}
 use borrow.Author.Needs.{needs}
-use Rattle.source_steps.proofs.Offering.{held-length, core-fits, names-one, offer-rests, offer-delivers}
+use Rattle.in_place.proofs.Stored.{held-length}
+use Rattle.source_steps.proofs.Offering.{core-fits, names-one, offer-rests, offer-delivers}
 use Rattle.source_steps.proofs.offer.Statement.{statement}
 use Rattle.source_steps.proofs.offer.Tie as tie
 

@@ -6,7 +6,7 @@ use borrow.Author.Needs.{needs}
 use borrow.Author.Tests.{not-true, not-false}
 use Rattle.model.specs.Commands.{namesSource}
 use Rattle.layout.specs.Bytes.{stateFrom}
-use Rattle.source_steps.proofs.Offering.{held-length}
+use Rattle.in_place.proofs.Stored.{held-length}
 use Rattle.source_steps.proofs.Sourced.{cores-fit, named-by, bad-source, some-id, in-array}
 use Rattle.source_steps.proofs.Sourced.{Looked, looked, refused-later, offered, accepted}
 use Rattle.source_steps.proofs.on_source.Statement.{statement}
