@@ -2,7 +2,7 @@
 --   Passed, passed-one, -taken, -left, -all    a walk for the least or the greatest: one number, one more that is taken or left, the end
 --   least-told                      the least number of the cores tells the least core and its current priority
 --   Told, highest-told              the greatest number of the sources tells whether the highest candidate interrupts a core, and which it is
-use Prim.Native.Nat.{ℕ, _+_, _*_, _-_, _/_, _%_, _<_, _≤_}
+use Prim.Native.Nat.{ℕ, _+_, _*_, _-_, _%_, _<_, _≤_}
 use mathlib.Core.Path.{_≡_, refl, sym, subst, _∙_}
 use mathlib.Core.List.{List}
 use mathlib.Core.Bool.{true, false}
@@ -11,7 +11,7 @@ use borrow.Author.Count.{below-more}
 use borrow.Author.Tests.{lt-ltb, le-ltb}
 use lib.ListN.{getD}
 use Rattle.lists.specs.Rows.{FilledBy}
-use Rattle.lists.proofs.Bools.{and-in, clash, refuted, Flag, on, off, flag}
+use Rattle.lists.proofs.Bools.{and-in, refuted, Flag, on, off, flag}
 use Rattle.lists.proofs.Winner.{FirstIn, first-unique}
 use Rattle.model.specs.declared.Source.{Source}
 use Rattle.model.specs.declared.Core.{Core}

@@ -25,7 +25,6 @@ use Rattle.model.specs.declared.CoreAction.{CoreAction}
 use Rattle.model.specs.declared.CoreAction.the-variants.{SetCorePriority, Claim}
 use Rattle.model.specs.Records.{maxCores, noCore, coreWith, coreAt, withCore, answer}
 use Rattle.model.specs.WellFormed.{wellFormed, Consistent}
-use Rattle.model.specs.Settling.{settle, cyclesOf}
 use Rattle.model.specs.Commands.{namesCore, claimedCore, coreRefusal, effect, refusalOf, answeredId, settled, execute}
 use Rattle.checks.specs.Refusals.{coreRefusalBy}
 use Rattle.arbitration.specs.Places.{keyAt}

@@ -4,9 +4,9 @@
 --   turn-rests                        the numbers say that nothing is left to deliver
 --   delivered-rest, -all              at rest, or after m turns: the answer is that of every longer run
 use Prim.Native.Nat.{ℕ, suc, _+_, _%_, _<_, _≤_}
-use mathlib.Core.Path.{_≡_, refl, sym, ap, ap₂, subst, _∙_}
+use mathlib.Core.Path.{_≡_, refl, sym, ap₂, subst, _∙_}
 use mathlib.Core.List.{List}
-use mathlib.Core.Bool.{true, false}
+use mathlib.Core.Bool.{true}
 use native.Mathlib.Omega.{arith}
 use Rattle.model.specs.declared.Source.{Source}
 use Rattle.model.specs.declared.Core.{Core}
@@ -22,7 +22,7 @@ use Rattle.arbitration.proofs.LeastCore.{least-below}
 use Rattle.arbitration.proofs.Told.{Told, least-told, highest-told}
 use Rattle.settling.specs.Phases.{Delivering}
 use Rattle.settling.specs.Runs.{AfterDeliveries}
-use Rattle.settling.proofs.Next.{Contest, topSource, lowCore, contest, next-clean}
+use Rattle.settling.proofs.Next.{topSource, lowCore, contest, next-clean}
 use Rattle.settling.proofs.Arbitrated.{Arbitrated}
 use Rattle.settling.proofs.Deliver.{deliver-consistent, deliver-delivering}
 use Rattle.settling.proofs.Deliveries.{deliveries-end}

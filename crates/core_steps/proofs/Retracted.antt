@@ -10,14 +10,12 @@ use mathlib.Core.Bool.{true, false}
 use lib.ListN.{length, getD, set, List·getD-map}
 use native.Mathlib.Omega.{arith}
 use native.Mathlib.Decide.{ℕ-discrete, decLt}
-use Rattle.model.specs.declared.MessageBox.{MessageBox}
 use Rattle.model.specs.declared.Core.{Core}
 use Rattle.model.specs.declared.Controller.{Controller}
 use Rattle.model.specs.Records.{maxCores, noCore, emptyBox, boxWith, coreWith, coreAt, withSources, withCore, withCores}
 use Rattle.model.specs.Commands.{soiled}
-use Rattle.model.specs.WellFormed.{Holding, Consistent}
+use Rattle.model.specs.WellFormed.{Holding}
 use Rattle.model.specs.Settling.{putBack, retract}
-use Rattle.lists.proofs.Bools.{clash, refuted}
 use Rattle.settling.specs.Phases.{AllDirty}
 use Rattle.settling.specs.Runs.{AfterRetractions}
 use Rattle.settling.proofs.Writes.{core-retract-same, core-retract-other}
@@ -25,7 +23,7 @@ use Rattle.settling.proofs.Forward.{ran-m}
 use Rattle.settling.proofs.Retracting.{Retracting, retracting-none, retracting-clean, retracting-dirty, retracting-all}
 use Rattle.layout.specs.Bytes.{stateFrom}
 use Rattle.in_place.specs.Held.{Held, Names, Retracts}
-use Rattle.in_place.proofs.Stored.{held-back, held-here, read-core}
+use Rattle.in_place.proofs.Stored.{held-back, held-here}
 use Rattle.core_steps.specs.Phases.{soiledAll, AllClean, Soiled, Emptied}
 
 -- ---- marks

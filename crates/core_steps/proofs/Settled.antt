@@ -8,12 +8,9 @@ use Rattle.model.specs.Settling.{settle, cyclesOf}
 use Rattle.settling.proofs.Determined.{after-settles, after-counts}
 use Rattle.layout.specs.Bytes.{stateFrom}
 use Rattle.in_place.specs.Held.{Held}
-use Rattle.core_steps.specs.Phases.{soiledAll, Soiled, Emptied, Undelivered, Delivered, Settled}
+use Rattle.core_steps.specs.Phases.{soiledAll, Emptied, Delivered, Settled}
 
 module _ {b b₁ keys₁ ranks₁ : List ℕ} {x : ℕ} (e : Emptied b x b₁ keys₁ ranks₁) where
-  pub undelivered : Undelivered b₁ keys₁ ranks₁
-  undelivered = record { held = e .held; consistent = e .after .consistent; delivering = e .after .delivering }
-
   -- 2m cycles less those of the retractions are enough for the deliveries
   pub settled-by : {y : ℕ} {b₂ keys₂ ranks₂ : List ℕ} → Delivered b₁ y b₂ keys₂ ranks₂ → Settled (soiledAll (stateFrom b)) (x + y) b₂ keys₂ ranks₂
   settled-by {y} {b₂} {keys₂} {ranks₂} d =

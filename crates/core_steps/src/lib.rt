@@ -1,5 +1,4 @@
 // The two commands on a core, on a sound state that lies in a host's bytes: decide by the core's record, then store.
-ghost use Prim.Native.Nat.{_≤_};
 ghost use mathlib.Core.Path.{_≡_};
 ghost use Rattle.layout.specs.Bytes.{stateFrom};
 ghost use Rattle.in_place.specs.Steps.{Ready, Executed};

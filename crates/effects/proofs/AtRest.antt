@@ -14,7 +14,7 @@ use Rattle.model.specs.declared.CoreAction.the-variants.{Claim}
 use Rattle.model.specs.declared.Cycle.the-variants.{Rest}
 use Rattle.model.specs.Records.{coreAt, withCore, answer}
 use Rattle.model.specs.WellFormed.{WellFormed, Consistent, NoneAbove}
-use Rattle.model.specs.Settling.{next, settle}
+use Rattle.model.specs.Settling.{next}
 use Rattle.model.specs.Commands.{claimedCore, effect, refusalOf, refusal, answeredId, settled, execute}
 use Rattle.lists.proofs.Bools.{clash}
 use Rattle.well_formed.proofs.Test.{wellFormed-in}

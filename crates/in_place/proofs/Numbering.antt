@@ -5,7 +5,7 @@
 use Prim.Native.Nat.{ℕ, _+_, _<_, _≤_}
 use mathlib.Core.Path.{_≡_, refl, sym, ap, _∙_}
 use mathlib.Core.List.{List}
-use lib.ListN.{length, set}
+use lib.ListN.{set}
 use native.Mathlib.Omega.{arith}
 use Rattle.lists.proofs.Filling.{Filling, filling-more}
 use Rattle.model.specs.declared.Source.{Source}

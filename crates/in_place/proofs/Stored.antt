@@ -16,12 +16,11 @@ use Rattle.model.specs.declared.Source.{Source}
 use Rattle.model.specs.declared.MessageBox.{MessageBox}
 use Rattle.model.specs.declared.Core.{Core}
 use Rattle.model.specs.declared.Controller.{Controller}
-use Rattle.model.specs.Records.{maxSources, maxCores, noSource, noCore, sourceId, indexOf, emptyBox, withDelivered, holding, coreWith, sourceAt, coreAt, withSource, withSources, withCore}
+use Rattle.model.specs.Records.{maxSources, maxCores, noSource, noCore, sourceId, emptyBox, withDelivered, holding, coreWith, sourceAt, coreAt, withSource, withSources, withCore}
 use Rattle.model.specs.Settling.{putBack, retract, deliver}
 use Rattle.lists.proofs.Filling.{filled-written}
 use Rattle.arbitration.specs.Places.{keyAt, rankAt}
-use Rattle.layout.specs.Bytes.{sourceBytes, coreBytes, stateBytes, stateSize, sourceFrom, coreFrom, stateFrom}
-use Rattle.layout.specs.Statements.{Sized}
+use Rattle.layout.specs.Bytes.{sourceBytes, coreBytes, stateSize, sourceFrom, coreFrom, stateFrom}
 use Rattle.layout.proofs.InPlace.{source-in-place, core-in-place, source-stored, core-stored}
 use Rattle.layout.proofs.RoundTrip.{state-length, state-read-back}
 use Rattle.in_place.specs.Held.{sourcePlace, corePlace, Held, Names, PutsBack}

@@ -5,9 +5,9 @@
 --   Filling f d l size i ks        a row of numbers filled so, one for each element of l (`FilledBy`)
 --   filling-none, filling-more     the same of such a row
 --   filled-written                 an element and its number written at the same index
-use Prim.Native.Nat.{ℕ, zero, suc, _+_, _<_, _≤_}
-use mathlib.Core.Path.{_≡_, refl, sym, ap₂, _∙_}
-use mathlib.Core.List.{List, [], _∷_, map}
+use Prim.Native.Nat.{ℕ, _+_, _<_, _≤_}
+use mathlib.Core.Path.{_≡_, sym, _∙_}
+use mathlib.Core.List.{List}
 use lib.ListN.{length, getD, set, replicate, length-replicate, length-set}
 use lib.Seq.{getD-set-same, getD-set-other}
 use native.Mathlib.Omega.{arith}
@@ -51,25 +51,6 @@ module _ {A : Type 0} (d : A) where
   pub filled-tabulated :
       (f : ℕ → A) {size i : ℕ} {l : List A} → Filled (ValueOf f) Anything d size i l → size ≤ i → l ≡ tabulated size f
   filled-tabulated f {size} {i} {l} r h = sym (tabulated-all size f l d (r .whole) (λ j p. sym (r .filled j (omega arith))))
-
-  -- of a list that is changed in place: what an element becomes, and that it is as it was
-  abbrev pub Changed : (A → A) → List A → ℕ → A → Type 0
-  Changed f l j x = x ≡ f (getD l j d)
-
-  abbrev pub Unchanged : List A → ℕ → A → Type 0
-  Unchanged l j x = x ≡ getD l j d
-
-  map-by : (f : A → A) (l now : List A) → length now ≡ length l → ((j : ℕ) → j < length l → getD now j d ≡ f (getD l j d)) → now ≡ map f l
-  map-by f [] [] e h = refl
-  map-by f [] (y ∷ now) e h = absurd (omega arith)
-  map-by f (x ∷ l) [] e h = absurd (omega arith)
-  map-by f (x ∷ l) (y ∷ now) e h =
-      ap₂ _∷_ (h zero (omega arith)) (map-by f l now (omega arith) (λ j p. h (suc j) (omega arith)))
-
-  pub filled-map :
-      (f : A → A) (l : List A) {size i : ℕ} {now : List A} → length l ≡ size → Filled (Changed f l) (Unchanged l) d size i now →
-      size ≤ i → now ≡ map f l
-  filled-map f l {size} {i} {now} e r h = map-by f l now (r .whole ∙ sym e) (λ j p. r .filled j (omega arith))
 
 -- ---- a row of numbers
 

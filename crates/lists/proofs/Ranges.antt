@@ -2,7 +2,7 @@
 --   by-halves                       what holds of ranges of none and of one, and of a range if of its halves, holds of all
 --   halved-enough, halved-node      every bound on the depth that is enough makes the same tree; that of a range has those of its halves
 --   ranges-halves                   so the list of its ranges has theirs
---   occupied-single, occupied-pair  the count for one such number, and for two numbers of which one is such
+--   occupied-single                 the count for one such number
 --   occupied-node                   the count for a range that has such a number, from those for its halves
 --   occupied-cong                   tests that agree inside the range
 --   occupied-none, occupied-some    no such number: 0; some: at least 1
@@ -123,12 +123,6 @@ module _ (f : ℕ → Bool) where
       go : Flag (within f (lo, 1)) → occupied f lo 1 + tally lo f ≡ tally (lo + 1) f
       go (on e) = omega (arith, occupied-single lo e, within-rise f lo 1 e, ap (λ (i : ℕ). tally i f) (add-one lo), tally-step f lo .1)
       go (off e) = omega (arith, rw e at (occupied-one lo), within-level f lo 1 e)
-
-  -- a pair, and each such number of it
-  pub occupied-pair : (lo : ℕ) → within f (lo, 2) ≡ true → occupied f lo 2 + tally lo f ≡ tally (lo + 2) f + 1
-  occupied-pair lo e =
-      let end : tally (lo + 1 + 1) f ≡ tally (lo + 2) f = ap (λ (i : ℕ). tally i f) (omega arith) in
-      omega (arith, occupied-node lo 2 (omega arith) e, occupied-tally lo, occupied-tally (lo + 1))
 
   -- ---- how large the count is
 

@@ -4,7 +4,7 @@ ghost use Rattle.model.specs.Records.{sourceWith, withConfigured, withMask, wit
 ghost use Rattle.model.specs.Priorities.{topPriority};
 ghost use Rattle.model.specs.Requests.{currentPriority, candidate};
 ghost use Rattle.model.specs.Arbitration.{rank as rankOf};
-ghost use Rattle.model.specs.Commands.{claimedCore, soiled as soiledCore, sourceAfter};
+ghost use Rattle.model.specs.Commands.{claimedCore, sourceAfter};
 use model::Answer;
 use model::CORES;
 use model::Controller;

@@ -3,16 +3,15 @@
 --   dirtyBoxes s       how many boxes are dirty
 --   retractions-end    settling ends, with at most m retractions and m deliveries
 use Prim.Native.Nat.{ℕ, zero, suc, _+_, _*_, _<_, _≤_}
-use mathlib.Core.Path.{_≡_, ap}
+use mathlib.Core.Path.{_≡_}
 use mathlib.Core.Bool.{true, cond}
 use native.Mathlib.Omega.{arith}
 use native.Mathlib.Decide.{ℕ-discrete}
-use Rattle.model.specs.declared.MessageBox.{MessageBox}
 use Rattle.model.specs.declared.Controller.{Controller}
 use Rattle.model.specs.declared.Cycle.the-variants.{Retract}
 use Rattle.model.specs.Records.{coreId, coreAt}
 use Rattle.model.specs.Settling.{retract}
-use Rattle.lists.proofs.Bools.{clash, confirmed}
+use Rattle.lists.proofs.Bools.{clash}
 use Rattle.lists.proofs.Counting.{reached, reached-le, reached-more}
 use Rattle.model.specs.WellFormed.{Consistent}
 use Rattle.settling.specs.Phases.{AllDirty, Delivering, Ended}
@@ -35,10 +34,6 @@ pub clean-delivering : {s : Controller} → AllDirty s → Clean (s .cores) (s .
 clean-delivering all clean = record { clean = clean; covered = λ j k p q e. clash (all j p e) (clean j p) }
 
 module _ (s : Controller) (c : Consistent s) (k : ℕ) (h : k < s .m) (dirty : (coreAt s k) .message .dirty ≡ true) where
-  pub dirty-filled : (coreAt s k) .message .filled ≡ true
-  dirty-filled =
-      confirmed ((coreAt s k) .message .filled) (λ p. clash dirty (ap (λ (b : MessageBox). b .dirty) (c .empty-box k h p)))
-
   mark-retract : (j : ℕ) → 1 ≤ mark (retract s k) j → 1 ≤ mark s j
   mark-retract j p = go (ℕ-discrete j k)
     where

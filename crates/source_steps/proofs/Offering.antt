@@ -7,7 +7,7 @@ use mathlib.Core.Path.{_≡_, sym, ap, ap₂, subst, _∙_}
 use mathlib.Core.List.{List}
 use mathlib.Core.Bool.{true, false}
 use lib.Dec.{ltb}
-use lib.ListN.{length, getD}
+use lib.ListN.{getD}
 use borrow.Author.Tests.{lt-ltb, le-ltb}
 use native.Mathlib.Omega.{arith}
 use Rattle.lists.proofs.Bools.{Flag, on, off, flag}
@@ -23,11 +23,10 @@ use Rattle.model.specs.Statements.{deliveredOnce}
 use Rattle.arbitration.specs.Places.{rankAt, coreOf, currentOf, priorityOf, LowestOf}
 use Rattle.arbitration.proofs.LeastCore.{least-below}
 use Rattle.arbitration.proofs.Told.{least-told}
-use Rattle.layout.specs.Bytes.{stateSize, coreFrom, stateFrom}
+use Rattle.layout.specs.Bytes.{coreFrom, stateFrom}
 use Rattle.layout.proofs.InPlace.{core-read}
-use Rattle.layout.proofs.RoundTrip.{state-length}
 use Rattle.in_place.specs.declared.Outcome.{Outcome}
-use Rattle.in_place.specs.Held.{corePlace, Held, Names, Delivers}
+use Rattle.in_place.specs.Held.{corePlace, Names, Delivers}
 use Rattle.in_place.specs.Steps.{Says, Leaves}
 use Rattle.source_steps.specs.Offers.{Offered}
 

@@ -5,7 +5,7 @@
 --   refused-later                a refused command leaves bytes and numbers as they were
 --   offered, accepted            the record stored, and its request offered: the answer is the definition's
 use Prim.Native.Nat.{ℕ, _-_, _<_, _≤_}
-use mathlib.Core.Path.{_≡_, sym, ap, ap₂, subst, _∙_}
+use mathlib.Core.Path.{_≡_, sym, ap₂, subst, _∙_}
 use mathlib.Core.Logic.{_≢_}
 use mathlib.Core.List.{List}
 use mathlib.Core.Bool.{Bool, true, false, not, _&&_}
@@ -21,10 +21,10 @@ use Rattle.model.specs.declared.Controller.{Controller}
 use Rattle.model.specs.declared.Answer.{Answer}
 use Rattle.model.specs.declared.Command.the-variants.{OnSource}
 use Rattle.model.specs.declared.SourceAction.{SourceAction}
-use Rattle.model.specs.Records.{maxSources, maxCores, noSource, indexOf, sourceAt, withSource, answer}
+use Rattle.model.specs.Records.{maxSources, maxCores, noSource, indexOf, sourceAt, withSource}
 use Rattle.model.specs.Requests.{boxed, claimed}
 use Rattle.model.specs.WellFormed.{Consistent, wellFormed}
-use Rattle.model.specs.Commands.{namesSource, sourceAfter, sourceRefusal, effect, refusalOf, refusal, execute}
+use Rattle.model.specs.Commands.{namesSource, sourceAfter, sourceRefusal, effect, refusalOf, refusal}
 use Rattle.model.specs.Statements.{deliveredOnce}
 use Rattle.checks.specs.Refusals.{sourceRefusalBy}
 use Rattle.checks.proofs.Decided.{claimed-at, number-is}

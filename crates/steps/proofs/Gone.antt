@@ -13,7 +13,6 @@ use Rattle.lists.proofs.Bools.{and-l, clash}
 use Rattle.model.specs.declared.Controller.{Controller}
 use Rattle.model.specs.declared.Answer.{Answer}
 use Rattle.model.specs.declared.Command.{Command}
-use Rattle.model.specs.Records.{answer}
 use Rattle.model.specs.WellFormed.{wellFormed, WellFormed}
 use Rattle.model.specs.Commands.{execute}
 use Rattle.well_formed.proofs.Test.{wellFormed-in, wellFormed-out}
@@ -22,7 +21,7 @@ use Rattle.effects.proofs.Kept.{wellFormed-kept}
 use Rattle.layout.specs.Bytes.{stateSize, stateBytes, isState, stateFrom}
 use Rattle.layout.specs.Statements.{Sized}
 use Rattle.in_place.specs.declared.Outcome.{Outcome}
-use Rattle.in_place.specs.Held.{Numbered, Held}
+use Rattle.in_place.specs.Held.{Numbered}
 use Rattle.in_place.specs.Steps.{Says, Ready, Executed}
 use Rattle.in_place.proofs.Stored.{held-back, held-here, held-length}
 use Rattle.steps.specs.Going.{Going, Went}

@@ -2,7 +2,6 @@
 use mathlib.Core.Path.{_≡_, refl, ap, _∙_}
 use mathlib.Core.Bool.{true}
 use Rattle.lists.proofs.Arrays.{unmapped}
-use Rattle.model.specs.declared.Controller.{Controller}
 use Rattle.layout.specs.Bytes.{isState, stateFrom}
 use Rattle.layout.specs.Statements.{Sized}
 use Rattle.layout.proofs.RoundTrip.{state-read-back, state-encoded}

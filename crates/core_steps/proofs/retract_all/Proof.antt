@@ -1,5 +1,5 @@
 -- `core_steps::retract_all` meets its contract: the boxes passed are empty. The measure is what is left of the cores. Assumes nothing.
-use Prim.Native.Nat.{ℕ, _-_, _<_}
+use Prim.Native.Nat.{_-_, _<_}
 use mathlib.Core.Path.{sym, _∙_}
 use mathlib.Core.Logic.{⊎-elim}
 use native.Mathlib.Omega.{arith}

@@ -1,5 +1,5 @@
 -- `in_place::number_all` meets its contract: the rows are filled from the front. The measure is what is left of each. Assumes nothing.
-use Prim.Native.Nat.{ℕ, _-_, _<_, _≤_}
+use Prim.Native.Nat.{_-_, _<_, _≤_}
 use native.Mathlib.Omega.{arith}
 use borrow.Author.Needs.{needs}
 use Rattle.model.specs.Records.{maxSources, maxCores}
