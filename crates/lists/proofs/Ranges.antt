@@ -14,13 +14,11 @@ use mathlib.Core.List.{List, [], _∷_, _++_}
 use mathlib.Core.Bool.{Bool, true, false, cond}
 use native.Mathlib.Nat.{add-zero, mul-add, suc-mul, mul-le-mul-right}
 use native.Mathlib.Omega.{arith}
-use native.Mathlib.Numerals.{add-one}
 use lib.ListN.{length}
 use Rattle.lists.specs.Rows.{filter}
 use Rattle.lists.specs.Walks.{tally, leftHalf, Comparators, over, halved, longestPath, rangesOf, ranges, within, occupied}
-use Rattle.lists.proofs.Bools.{Flag, on, off, flag}
 use Rattle.lists.proofs.Walks.{some-agree}
-use Rattle.lists.proofs.Tallies.{one-le, tally-step, tally-mono, within-in, within-rise, within-level}
+use Rattle.lists.proofs.Tallies.{one-le, tally-mono, within-in, within-rise, within-level}
 
 -- ---- the tree
 
@@ -115,14 +113,6 @@ module _ (f : ℕ → Bool) where
   occupied-some lo zero e = absurd (omega (arith, within-rise f lo 0 e, ap (λ (i : ℕ). tally i f) (add-zero lo)))
   occupied-some lo (suc zero) e = omega (arith, occupied-single lo e)
   occupied-some lo (suc (suc k)) e = omega (arith, occupied-node lo (suc (suc k)) (omega arith) e)
-
-  -- one number counts as in the tally
-  occupied-tally : (lo : ℕ) → occupied f lo 1 + tally lo f ≡ tally (lo + 1) f
-  occupied-tally lo = go (flag (within f (lo, 1)))
-    where
-      go : Flag (within f (lo, 1)) → occupied f lo 1 + tally lo f ≡ tally (lo + 1) f
-      go (on e) = omega (arith, occupied-single lo e, within-rise f lo 1 e, ap (λ (i : ℕ). tally i f) (add-one lo), tally-step f lo .1)
-      go (off e) = omega (arith, rw e at (occupied-one lo), within-level f lo 1 e)
 
   -- ---- how large the count is
 

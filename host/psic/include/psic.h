@@ -30,8 +30,8 @@
 #include <stdint.h>
 
 /* The version of this header: ten thousand times the major number, a hundred times the minor one, and the patch. */
-#define PSIC_VERSION 20000u
-#define PSIC_VERSION_TEXT "2.0.0"
+#define PSIC_VERSION 20100u
+#define PSIC_VERSION_TEXT "2.1.0"
 
 /* The largest sizes: "n sources, 1 to 128", "m cores, 1 to 32". */
 #define PSIC_MAX_SOURCES 128u
