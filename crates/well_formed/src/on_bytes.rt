@@ -190,7 +190,7 @@ pub fn survey(state: &[u8]) -> Surveyed
 
 // Whether a state is sound: document 01, "A sound state", with document 02's clause, request 2. Flags are 1 or off, whatever else the
 // byte is.
-pub fn is_sound(state: &[u8]) -> bool
+pub fn well_formed(state: &[u8]) -> bool
     requires { ⌜ length (now state) ≡ stateSize ⌝ }
     ensures { λ r. ⌜ r ≡ wellFormed (stateFrom (now (state .entry))) ⌝ }
 {

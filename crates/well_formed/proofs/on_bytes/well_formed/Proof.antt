@@ -1,4 +1,4 @@
--- `well_formed::on_bytes::is_sound` meets its contract: each test decides one of the facts that the survey of a well-formed state shows.
+-- `well_formed::on_bytes::well_formed` meets its contract: each test decides one of the facts that the survey of a well-formed state shows.
 -- Assumes nothing.
 use native.Mathlib.Omega.{arith}
 use borrow.Author.Tests.{not-true, not-false}
@@ -7,8 +7,8 @@ use Rattle.layout.specs.Bytes.{stateFrom}
 use Rattle.lists.proofs.Bools.{clash}
 use Rattle.lists.proofs.Exact.{Exact, ltb-exact, refused, agree}
 use Rattle.well_formed.proofs.Verdict.{Passed, well-formed-exact}
-use Rattle.well_formed.proofs.on_bytes.is_sound.Statement.{statement}
-use Rattle.well_formed.proofs.on_bytes.is_sound.Tie as tie
+use Rattle.well_formed.proofs.on_bytes.well_formed.Statement.{statement}
+use Rattle.well_formed.proofs.on_bytes.well_formed.Tie as tie
 
 -- what the definition asks for
 asked : (c : tie.After-survey) → Exact (wellFormed (stateFrom (c .before .before .args .state .now))) (Passed (c .survey .result))
@@ -38,5 +38,5 @@ returns-5 c =
     agree (ltb-exact _ _) (asked survey)
     (λ h. (((not-false _ (one .if1 .left), not-false _ (two .if2 .left)), (three .if3 .left, c .before .if4 .left)), h)) (λ p. p .1)
 
-pub is-sound-spec : {M : Type 1} → statement M
-is-sound-spec = tie.close (tie.spec survey-requires returns returns-2 returns-3 returns-4 returns-5)
+pub well-formed-spec : {M : Type 1} → statement M
+well-formed-spec = tie.close (tie.spec survey-requires returns returns-2 returns-3 returns-4 returns-5)
