@@ -1,5 +1,5 @@
 -- The first of the least cores and of the highest candidates, by numbers that hold key and place. Assumes nothing.
---   Passed, passed-one, -taken, -left, -all    a walk for the least or the greatest: one number, one more that is taken or left, the end
+--   SoFar, so-far-one, -taken, -left, -all    a walk for the least or the greatest: one number, one more that is taken or left, the end
 --   least-told                      the least number of the cores tells the least core and its current priority
 --   Told, highest-told              the greatest number of the sources tells whether the highest candidate interrupts a core, and which it is
 use Prim.Native.Nat.{ℕ, _+_, _*_, _-_, _%_, _<_, _≤_}
@@ -27,46 +27,46 @@ use Rattle.arbitration.proofs.LeastCore.{least-first}
 -- ---- a walk for the outermost
 
 -- x is the outermost of the first k numbers, of n.
-pub record Passed (R : ℕ → ℕ → Type 0) (ks : List ℕ) (n k x : ℕ) : Type 0 where
-  pub so-far : Outermost R ks k x
+pub record SoFar (R : ℕ → ℕ → Type 0) (ks : List ℕ) (n k x : ℕ) : Type 0 where
+  pub best : Outermost R ks k x
   pub within : k ≤ n
 
 module _ (R : ℕ → ℕ → Type 0) (ks : List ℕ) (n : ℕ) where
-  pub passed-one : R (getD ks 0 0) (getD ks 0 0) → 0 < n → Passed R ks n 1 (getD ks 0 0)
-  passed-one r h =
+  pub so-far-one : R (getD ks 0 0) (getD ks 0 0) → 0 < n → SoFar R ks n 1 (getD ks 0 0)
+  so-far-one r h =
       let only : (i : ℕ) → i < 1 → R (getD ks 0 0) (getD ks i 0)
       = λ i g. let e : 0 ≡ i = omega arith in subst (λ (j : ℕ). R (getD ks 0 0) (getD ks j 0)) e r in
-      record { so-far = record { at = 0; inside = omega arith; there = refl; related = only }; within = omega arith }
+      record { best = record { at = 0; inside = omega arith; there = refl; related = only }; within = omega arith }
 
-  module _ {k x : ℕ} (p : Passed R ks n k x) (h : k < n) where
-    pub passed-taken : R (getD ks k 0) (getD ks k 0) → ((z : ℕ) → R x z → R (getD ks k 0) z) → Passed R ks n (k + 1) (getD ks k 0)
-    passed-taken r through =
+  module _ {k x : ℕ} (p : SoFar R ks n k x) (h : k < n) where
+    pub so-far-taken : R (getD ks k 0) (getD ks k 0) → ((z : ℕ) → R x z → R (getD ks k 0) z) → SoFar R ks n (k + 1) (getD ks k 0)
+    so-far-taken r through =
         record {
-          so-far =
+          best =
               record {
                 at = k;
                 inside = omega arith;
                 there = refl;
-                related = below-more (λ (i : ℕ). R (getD ks k 0) (getD ks i 0)) k (λ i g. through _ (p .so-far .related i g)) r;
+                related = below-more (λ (i : ℕ). R (getD ks k 0) (getD ks i 0)) k (λ i g. through _ (p .best .related i g)) r;
               };
           within = omega arith;
         }
 
-    pub passed-left : R x (getD ks k 0) → Passed R ks n (k + 1) x
-    passed-left r =
+    pub so-far-left : R x (getD ks k 0) → SoFar R ks n (k + 1) x
+    so-far-left r =
         record {
-          so-far =
+          best =
               record {
-                at = p .so-far .at;
-                inside = omega (arith, p .so-far .inside);
-                there = p .so-far .there;
-                related = below-more (λ (i : ℕ). R x (getD ks i 0)) k (p .so-far .related) r;
+                at = p .best .at;
+                inside = omega (arith, p .best .inside);
+                there = p .best .there;
+                related = below-more (λ (i : ℕ). R x (getD ks i 0)) k (p .best .related) r;
               };
           within = omega arith;
         }
 
-  pub passed-all : {k x : ℕ} → Passed R ks n k x → n ≤ k → Outermost R ks n x
-  passed-all {k} {x} p h = let e : k ≡ n = omega (arith, p .within) in subst (λ (j : ℕ). Outermost R ks j x) e (p .so-far)
+  pub so-far-all : {k x : ℕ} → SoFar R ks n k x → n ≤ k → Outermost R ks n x
+  so-far-all {k} {x} p h = let e : k ≡ n = omega (arith, p .within) in subst (λ (j : ℕ). Outermost R ks j x) e (p .best)
 
 -- ---- the least core
 

@@ -1,6 +1,6 @@
 -- A command on a core, on the bytes of a sound state, from what the code reads and stores. Assumes nothing.
 --   named-by, bad-core           a core that there is, and one that there isn't; core-in is its place
---   Looked, looked               what the checks find of the record named
+--   Judged, judged               what the checks find of the record named
 --   refused-later                a refused command leaves bytes and numbers as they were
 --   soiled, set-leaves           set core priority: what settling finds, and the answer
 --   claim-leaves                 claim: nothing is left to settle
@@ -43,7 +43,7 @@ use Rattle.in_place.proofs.Stored.{held-back, held-here, held-core, read-core}
 use Rattle.core_steps.specs.Phases.{soiledAll, AllClean, Soiled, Settled}
 
 -- The core is one of the state's, c its record, and x the number of the checks after that of the core.
-pub record Looked (s : Controller) (core : CoreId) (a : CoreAction) (c : Core) (x : ℕ) : Type 0 where
+pub record Judged (s : Controller) (core : CoreId) (a : CoreAction) (c : Core) (x : ℕ) : Type 0 where
   pub named : namesCore s core ≡ true
   pub record-is : c ≡ coreAt s (core .0)
   pub number-found : x ≡ coreRefusal s (core .0) a
@@ -79,10 +79,10 @@ module _ {b keys ranks : List ℕ} (p : Ready b keys ranks) where
     pub core-in : core .0 < maxCores
     core-in = omega (arith, in-use, p .sound .consistent .m-le)
 
-    pub looked :
+    pub judged :
         (a : CoreAction) {n x : ℕ} {c : Core} → n ≡ wordAt b 0 → c ≡ coreFrom b (corePlace (core .0)) → x ≡ coreRefusalBy n c a →
-        Looked s core a c x
-    looked a {n} {x} {c} read-n read found =
+        Judged s core a c x
+    judged a {n} {x} {c} read-n read found =
         let there : c ≡ coreAt s (core .0) = read ∙ read-core (p .held) (core .0) core-in in
         record {
           named = named;
@@ -90,7 +90,7 @@ module _ {b keys ranks : List ℕ} (p : Ready b keys ranks) where
           number-found = found ∙ rw (read-n ∙ sizes-read b .0, there) (number-is s (core .0) a);
         }
 
-  module _ {core : CoreId} {a : CoreAction} {x : ℕ} {c : Core} (l : Looked s core a c x) where
+  module _ {core : CoreId} {a : CoreAction} {x : ℕ} {c : Core} (l : Judged s core a c x) where
     pub refused-later : {o : Outcome} → x ≢ 0 → Says o x 0 0 → Executed b (OnCore core a) o b keys ranks
     refused-later h says = refused (p .held) (OnCore core a) (at-later s (OnCore core a) tested (l .named) x (l .number-found) h) says
 

@@ -28,7 +28,7 @@ use Rattle.settling.proofs.Deliver.{deliver-consistent, deliver-delivering}
 use Rattle.settling.proofs.Deliveries.{deliveries-end}
 use Rattle.settling.proofs.Forward.{settle-beyond, cyclesOf-beyond, cyclesOf-le, Ran, ran-none, ran-more, ran-n, ran-m}
 use Rattle.layout.specs.Bytes.{stateFrom}
-use Rattle.in_place.specs.Held.{Held, Names, Delivers}
+use Rattle.in_place.specs.Held.{Held, NamesSource, Delivers}
 use Rattle.in_place.proofs.Stored.{held-back, held-here}
 use Rattle.core_steps.specs.Phases.{Undelivered, Delivered}
 
@@ -103,7 +103,7 @@ module _ {s : Controller} {b keys ranks : List ℕ} {t top key : ℕ} (d : Deliv
     turn-core = omega (arith, low .0, core-in-use, c .m-le)
 
     module _ {e : Core} (read-core : e ≡ coreAt u (coreOf key)) where
-      pub turn-names : Names (e .message)
+      pub turn-names : NamesSource (e .message)
       turn-names f =
           let filled : (coreAt u (lowCore u)) .message .filled ≡ true = rw (read-core, low .0) at f in
           let h : Holding u (coreAt u (lowCore u)) = c .backed (lowCore u) core-in-use filled in

@@ -22,7 +22,7 @@ use Rattle.settling.proofs.Writes.{core-retract-same, core-retract-other}
 use Rattle.settling.proofs.Forward.{ran-m}
 use Rattle.settling.proofs.Retracting.{Retracting, retracting-none, retracting-clean, retracting-dirty, retracting-all}
 use Rattle.layout.specs.Bytes.{stateFrom}
-use Rattle.in_place.specs.Held.{Held, Names, Retracts}
+use Rattle.in_place.specs.Held.{Held, NamesSource, Retracts}
 use Rattle.in_place.proofs.Stored.{held-back, held-here}
 use Rattle.core_steps.specs.Phases.{soiledAll, AllClean, Soiled, Emptied}
 
@@ -103,7 +103,7 @@ module _ {s : Controller} {b keys ranks : List ℕ} {x k : ℕ} (e : Emptying s 
     marked : (coreAt (soiledAll u) k) .message .dirty ≡ c .message .filled
     marked = rw (soiled-core u k, read)
 
-    pub box-names : Names (c .message)
+    pub box-names : NamesSource (c .message)
     box-names f =
         let filled : (coreAt (soiledAll u) k) .message .filled ≡ true = rw (soiled-core u k, ← read) f in
         let held : Holding (soiledAll u) (coreAt (soiledAll u) k) = e .turn .consistent .backed k in-use filled in

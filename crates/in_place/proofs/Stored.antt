@@ -23,7 +23,7 @@ use Rattle.arbitration.specs.Places.{keyAt, rankAt}
 use Rattle.layout.specs.Bytes.{sourceBytes, coreBytes, stateSize, sourceFrom, coreFrom, stateFrom}
 use Rattle.layout.proofs.InPlace.{source-in-place, core-in-place, source-stored, core-stored}
 use Rattle.layout.proofs.RoundTrip.{state-length, state-read-back}
-use Rattle.in_place.specs.Held.{sourcePlace, corePlace, Held, Names, PutsBack}
+use Rattle.in_place.specs.Held.{sourcePlace, corePlace, Held, NamesSource, PutsBack}
 
 module _ {s : Controller} {b keys ranks : List ℕ} (h : Held s b keys ranks) where
   -- the state that is held is the one that is read
@@ -88,7 +88,7 @@ module _ {s : Controller} {b keys ranks : List ℕ} (h : Held s b keys ranks) wh
   back-empty box f = rw f h
 
   pub back-filled :
-      (box : MessageBox) → Names box → box .filled ≡ true → {r q : Source} {b′ ranks′ : List ℕ} →
+      (box : MessageBox) → NamesSource box → box .filled ≡ true → {r q : Source} {b′ ranks′ : List ℕ} →
       r ≡ sourceFrom b (sourcePlace (box .source .0 - 1)) → q ≡ withDelivered false r →
       b′ ≡ sets b (sourcePlace (box .source .0 - 1)) (sourceBytes q) →
       ranks′ ≡ set ranks (box .source .0 - 1) (rankAt (box .source .0 - 1) q) →

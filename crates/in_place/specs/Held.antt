@@ -2,7 +2,7 @@
 -- believed.
 --   Held s b keys ranks    b are the bytes of s, keys the numbers of its cores, ranks those of its sources
 --   Numbered s keys ranks  the numbers alone
---   Names box              a filled box names a source that there is room for
+--   NamesSource box              a filled box names a source that there is room for
 --   PutsBack, Retracts, Delivers    what a call makes of whatever state is held: one with its request put back, retracted, delivered
 use Prim.Native.Nat.{ℕ, _+_, _*_, _≤_}
 use mathlib.Core.Path.{_≡_}
@@ -37,8 +37,8 @@ pub record Held (s : Controller) (b keys ranks : List ℕ) : Type 0 where
   pub sized : Sized s
   pub numbered : Numbered s keys ranks
 
-abbrev pub Names : MessageBox → Type 0
-Names box = box .filled ≡ true → (1 ≤ box .source .0) × (box .source .0 ≤ maxSources)
+abbrev pub NamesSource : MessageBox → Type 0
+NamesSource box = box .filled ≡ true → (1 ≤ box .source .0) × (box .source .0 ≤ maxSources)
 
 -- ---- what a call makes of whatever state is held
 

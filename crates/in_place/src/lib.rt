@@ -7,7 +7,7 @@ ghost use lib.Seq.{sets};
 ghost use Rattle.model.specs.Records.{maxSources, maxCores};
 ghost use Rattle.arbitration.specs.Places.{keyAt, rankAt};
 ghost use Rattle.layout.specs.Bytes.{stateSize, sourceBytes, coreBytes, stateFrom};
-ghost use Rattle.in_place.specs.Held.{sourcePlace, corePlace, Numbered, Names, PutsBack, Retracts, Delivers};
+ghost use Rattle.in_place.specs.Held.{sourcePlace, corePlace, Numbered, NamesSource, PutsBack, Retracts, Delivers};
 ghost use Rattle.in_place.specs.Steps.{Says};
 use arbitration::places;
 use model::CORES;
@@ -51,7 +51,7 @@ pub fn put_core(state: &mut [u8], keys: &mut [u32; CORES], k: usize, c: Core)
 
 // The request in the box of core record c, if there is one, goes back to waiting.
 fn put_back(state: &mut [u8], ranks: &mut [u32; SOURCES], c: Core)
-    requires { ⌜ (length (now state) ≡ stateSize) × Names (c .message) ⌝ }
+    requires { ⌜ (length (now state) ≡ stateSize) × NamesSource (c .message) ⌝ }
     ensures { λ x. ⌜ PutsBack (c .message) (now (state .entry)) (now (ranks .entry)) (now (state .exit)) (now (ranks .exit)) ⌝ }
 {
     if c.message.filled {
@@ -69,7 +69,7 @@ pub fn retract(
     k: usize,
     c: Core,
 )
-    requires { ⌜ (length (now state) ≡ stateSize) × (k < maxCores) × Names (c .message) ⌝ }
+    requires { ⌜ (length (now state) ≡ stateSize) × (k < maxCores) × NamesSource (c .message) ⌝ }
     ensures { λ x. ⌜ Retracts k c (now (state .entry)) (now (keys .entry)) (now (ranks .entry))
         (now (state .exit)) (now (keys .exit)) (now (ranks .exit)) ⌝ }
 {
@@ -87,7 +87,7 @@ pub fn deliver(
     k: usize,
     c: Core,
 )
-    requires { ⌜ (length (now state) ≡ stateSize) × (i < maxSources) × (k < maxCores) × Names (c .message) ⌝ }
+    requires { ⌜ (length (now state) ≡ stateSize) × (i < maxSources) × (k < maxCores) × NamesSource (c .message) ⌝ }
     ensures { λ x. ⌜ Delivers i r k c (now (state .entry)) (now (keys .entry)) (now (ranks .entry))
         (now (state .exit)) (now (keys .exit)) (now (ranks .exit)) ⌝ }
 {

@@ -17,7 +17,7 @@ use Rattle.settling.specs.Phases.{AllDirty}
 use Rattle.settling.specs.Runs.{AfterRetractions}
 use Rattle.settling.proofs.Writes.{core-retract-same, core-retract-other}
 use Rattle.settling.proofs.Retract.{retract-consistent, retract-allDirty}
-use Rattle.settling.proofs.Next.{Clean, next-retract}
+use Rattle.settling.proofs.Next.{NoneDirty, next-retract}
 use Rattle.settling.proofs.Forward.{Ran, ran-none, ran-more, ran-n, ran-m}
 use Rattle.settling.proofs.Retractions.{clean-delivering}
 
@@ -27,7 +27,7 @@ pub record Retracting (s state : Controller) (cycles k : ℕ) : Type 0 where
   pub all-dirty : AllDirty state
   pub within : k ≤ s .m
   pub cycles-le : cycles ≤ k
-  pub clean : Clean (state .cores) k
+  pub clean : NoneDirty (state .cores) k
 
 pub retracting-none : (s : Controller) → Consistent s → AllDirty s → Retracting s s 0 0
 retracting-none s c all =

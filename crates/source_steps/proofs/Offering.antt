@@ -26,7 +26,7 @@ use Rattle.arbitration.proofs.Told.{least-told}
 use Rattle.layout.specs.Bytes.{coreFrom, stateFrom}
 use Rattle.layout.proofs.InPlace.{core-read}
 use Rattle.in_place.specs.declared.Outcome.{Outcome}
-use Rattle.in_place.specs.Held.{corePlace, Names, Delivers}
+use Rattle.in_place.specs.Held.{corePlace, NamesSource, Delivers}
 use Rattle.in_place.specs.Steps.{Says, Leaves}
 use Rattle.source_steps.specs.Offers.{Offered}
 
@@ -72,7 +72,7 @@ module _ {b keys ranks : List ℕ} {m i : ℕ} {r : Source} (o : Offered (stateF
       record-at : c ≡ coreAt s k
       record-at = read ∙ sym (core-read b k core-fits)
 
-      pub names-one : Names (c .message)
+      pub names-one : NamesSource (c .message)
       names-one f =
           let held : Holding s (coreAt s k) = o .consistent .backed k core-in (rw record-at at f) in
           rw record-at (held .some-id, omega (arith, held .id-le, o .consistent .n-le))

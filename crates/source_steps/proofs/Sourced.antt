@@ -1,7 +1,7 @@
 -- A command on a source, on the bytes of a sound state, from what the code reads and stores. Assumes nothing.
 --   cores-fit                    the number of cores that is read
 --   bad-source, named-by         a source that there isn't, and one that there is; some-id, in-array are its id and its place
---   Looked, looked               what the checks find of the record named
+--   Judged, judged               what the checks find of the record named
 --   refused-later                a refused command leaves bytes and numbers as they were
 --   offered, accepted            the record stored, and its request offered: the answer is the definition's
 use Prim.Native.Nat.{ℕ, _-_, _<_, _≤_}
@@ -44,7 +44,7 @@ use Rattle.in_place.proofs.Stored.{held-back, held-source}
 use Rattle.source_steps.specs.Offers.{Offered}
 
 -- The id is a source's, m the number of cores, r the record, and k the number of the checks after that of the id.
-pub record Looked (s : Controller) (id : SourceId) (a : SourceAction) (m : ℕ) (r : Source) (k : ℕ) : Type 0 where
+pub record Judged (s : Controller) (id : SourceId) (a : SourceAction) (m : ℕ) (r : Source) (k : ℕ) : Type 0 where
   pub named : namesSource s id ≡ true
   pub cores-are : m ≡ s .m
   pub record-is : r ≡ sourceAt s (id .0 - 1)
@@ -79,11 +79,11 @@ module _ {b keys ranks : List ℕ} (p : Ready b keys ranks) where
     pub in-array : id .0 - 1 < maxSources
     in-array = omega (arith, range, p .sound .consistent .n-le)
 
-    pub looked :
+    pub judged :
         (a : SourceAction) {n m k : ℕ} {r : Source} {x : Bool} → n ≡ wordAt b 0 → m ≡ wordAt b 2 →
         r ≡ sourceFrom b (sourcePlace (id .0 - 1)) → x ≡ r .pending && r .delivered && not (boxed (s .cores) m (id .0)) →
-        k ≡ sourceRefusalBy n r x a → Looked s id a m r k
-    looked a {n} {m} {k} {r} {x} read-n read-m read-r asked found =
+        k ≡ sourceRefusalBy n r x a → Judged s id a m r k
+    judged a {n} {m} {k} {r} {x} read-n read-m read-r asked found =
         let cores : m ≡ s .m = read-m ∙ sizes-read b .1 in
         let there : r ≡ sourceAt s (id .0 - 1) = read-r ∙ sym (source-read b (id .0 - 1) in-array) in
         let taken : x ≡ claimed s (indexOf id) = asked ∙ rw (there, cores) (claimed-at s (id .0) some-id) in
@@ -94,7 +94,7 @@ module _ {b keys ranks : List ℕ} (p : Ready b keys ranks) where
           number-found = number-is s id a taken (found ∙ rw (read-n ∙ sizes-read b .0, there));
         }
 
-  module _ {id : SourceId} {a : SourceAction} {m k : ℕ} {r : Source} (l : Looked s id a m r k) where
+  module _ {id : SourceId} {a : SourceAction} {m k : ℕ} {r : Source} (l : Judged s id a m r k) where
     pub refused-later : {o : Outcome} → k ≢ 0 → Says o k 0 0 → Executed b (OnSource id a) o b keys ranks
     refused-later h says = refused (p .held) (OnSource id a) (at-later s (OnSource id a) tested (l .named) k (l .number-found) h) says
 

@@ -7,7 +7,7 @@ use Rattle.model.specs.Commands.{namesCore}
 use Rattle.layout.specs.Bytes.{stateFrom}
 use Rattle.in_place.proofs.Numbering.{sizes-read}
 use Rattle.in_place.proofs.Stored.{held-length}
-use Rattle.core_steps.proofs.Cores.{Looked, named-by, bad-core, core-in, looked, refused-later, soiled-by, sizes-stay, set-leaves, claim-leaves}
+use Rattle.core_steps.proofs.Cores.{Judged, named-by, bad-core, core-in, judged, refused-later, soiled-by, sizes-stay, set-leaves, claim-leaves}
 use borrow.Author.Needs.{needs}
 use Rattle.core_steps.proofs.on_core.Statement.{statement}
 use Rattle.core_steps.proofs.on_core.Tie as tie
@@ -23,10 +23,10 @@ named c = named-by (start c .pre) (start c .args .core) (c .before .before .word
 found :
     (c : tie.After-core-refusal) →
     let given = start (c .before .before .before .before .before .before) .args in
-    Looked (stateFrom (given .state .now)) (given .core) (given .a) (c .before .core-at .result) (c .core-refusal .result)
+    Judged (stateFrom (given .state .now)) (given .core) (given .a) (c .before .core-at .result) (c .core-refusal .result)
 found c =
     let at = c .before .before .before .before .before .before in
-    looked (start at .pre) (start at .args .core) (named at) (start at .args .a) (c .before .before .before .before .word-at2 .ensures) (c .before .core-at .ensures)
+    judged (start at .pre) (start at .args .core) (named at) (start at .args .a) (c .before .before .before .before .word-at2 .ensures) (c .before .core-at .ensures)
     (c .core-refusal .ensures)
 
 word-at-requires : tie.Need-word-at-requires

@@ -8,11 +8,11 @@ use Rattle.model.specs.Commands.{namesSource}
 use Rattle.layout.specs.Bytes.{stateFrom}
 use Rattle.in_place.proofs.Stored.{held-length}
 use Rattle.source_steps.proofs.Sourced.{cores-fit, named-by, bad-source, some-id, in-array}
-use Rattle.source_steps.proofs.Sourced.{Looked, looked, refused-later, offered, accepted}
+use Rattle.source_steps.proofs.Sourced.{Judged, judged, refused-later, offered, accepted}
 use Rattle.source_steps.proofs.on_source.Statement.{statement}
 use Rattle.source_steps.proofs.on_source.Tie as tie
 
--- ---- what is known once the id has passed, and once the record is looked at
+-- ---- what is known once the id has passed, and once the record is judged at
 
 abbrev start : tie.Else1 → tie.Start
 start c = c .before .before .before .before .before
@@ -29,12 +29,12 @@ passed c = c .before .before .before .before .before .before .before .before
 found : (c : tie.After-source-refusal) →
     let a = start (passed c) .args in
     let read = c .before .before .before in
-    Looked (stateFrom (a .state .now)) (a .id) (a .a) (read .before .before .word-at2 .result) (read .source-at .result)
+    Judged (stateFrom (a .state .now)) (a .id) (a .a) (read .before .before .word-at2 .result) (read .source-at .result)
     (c .source-refusal .result)
 found c =
     let at = passed c in
     let read = c .before .before .before in
-    looked (start at .pre) _ (named at) (start at .args .a) (at .before .before .word-at .ensures)
+    judged (start at .pre) _ (named at) (start at .args .a) (at .before .before .word-at .ensures)
     (read .before .before .word-at2 .ensures) (read .source-at .ensures) (c .before .is-claimed .ensures) (c .source-refusal .ensures)
 
 word-at-requires : tie.Need-word-at-requires

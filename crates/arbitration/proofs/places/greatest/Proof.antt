@@ -5,12 +5,12 @@ use mathlib.Core.List.{List}
 use mathlib.Core.Logic.{⊎-elim}
 use native.Mathlib.Omega.{arith}
 use Rattle.arbitration.specs.Places.{AtLeast}
-use Rattle.arbitration.proofs.Told.{Passed, passed-one, passed-taken, passed-left, passed-all}
+use Rattle.arbitration.proofs.Told.{SoFar, so-far-one, so-far-taken, so-far-left, so-far-all}
 use Rattle.arbitration.proofs.places.greatest.Statement.{statement}
 use Rattle.arbitration.proofs.places.greatest.Tie as tie
 
 abbrev Inv-loop : tie.InvT-loop
-Inv-loop ranks n top₀ i₀ top i = Passed AtLeast ranks n i top
+Inv-loop ranks n top₀ i₀ top i = SoFar AtLeast ranks n i top
 
 abbrev μ-loop : tie.MeasureT-loop
 μ-loop ranks n top₀ i₀ top i = n - i
@@ -19,7 +19,7 @@ element-copy-out-top : tie.Need-element-copy-out-top Inv-loop μ-loop
 element-copy-out-top c = omega arith
 
 loop-holds : tie.Need-loop-holds Inv-loop μ-loop
-loop-holds c = passed-one AtLeast (c .before .args .ranks .now) (c .before .args .n) (omega arith) (omega arith)
+loop-holds c = so-far-one AtLeast (c .before .args .ranks .now) (c .before .args .n) (omega arith) (omega arith)
 
 mul-if1 : tie.Need-mul-if1 Inv-loop μ-loop
 mul-if1 c = omega arith
@@ -45,13 +45,13 @@ loop-again c =
     let ks : List ℕ = at-loop .before .before .args .ranks .now in
     let n : ℕ = at-loop .before .before .args .n in
     ⊎-elim
-    (λ w. rw (w .2) (passed-taken AtLeast ks n (at-loop .loop .inv) (omega arith) (omega arith) (λ z h. omega (arith, w .0 .taken))))
-    (λ w. rw (w .1) (passed-left AtLeast ks n (at-loop .loop .inv) (omega arith) (omega (arith, w .0 .left))))
+    (λ w. rw (w .2) (so-far-taken AtLeast ks n (at-loop .loop .inv) (omega arith) (omega arith) (λ z h. omega (arith, w .0 .taken))))
+    (λ w. rw (w .1) (so-far-left AtLeast ks n (at-loop .loop .inv) (omega arith) (omega (arith, w .0 .left))))
     (c .if1 .came)
 
 returns : tie.Need-returns Inv-loop μ-loop
 returns c =
-    passed-all AtLeast (c .before .before .before .args .ranks .now) (c .before .before .before .args .n) (c .before .loop .inv) (c .loop-test .left)
+    so-far-all AtLeast (c .before .before .before .args .ranks .now) (c .before .before .before .args .n) (c .before .loop .inv) (c .loop-test .left)
 
 pub greatest-spec : {M : Type 1} → statement M
 greatest-spec =

@@ -5,12 +5,12 @@ use mathlib.Core.List.{List}
 use mathlib.Core.Logic.{⊎-elim}
 use native.Mathlib.Omega.{arith}
 use Rattle.arbitration.specs.Places.{AtMost}
-use Rattle.arbitration.proofs.Told.{Passed, passed-one, passed-taken, passed-left, passed-all}
+use Rattle.arbitration.proofs.Told.{SoFar, so-far-one, so-far-taken, so-far-left, so-far-all}
 use Rattle.arbitration.proofs.places.lowest.Statement.{statement}
 use Rattle.arbitration.proofs.places.lowest.Tie as tie
 
 abbrev Inv-loop : tie.InvT-loop
-Inv-loop keys m least₀ k₀ least k = Passed AtMost keys m k least
+Inv-loop keys m least₀ k₀ least k = SoFar AtMost keys m k least
 
 abbrev μ-loop : tie.MeasureT-loop
 μ-loop keys m least₀ k₀ least k = m - k
@@ -19,7 +19,7 @@ element-copy-out-least : tie.Need-element-copy-out-least Inv-loop μ-loop
 element-copy-out-least c = omega arith
 
 loop-holds : tie.Need-loop-holds Inv-loop μ-loop
-loop-holds c = passed-one AtMost (c .before .args .keys .now) (c .before .args .m) (omega arith) (omega arith)
+loop-holds c = so-far-one AtMost (c .before .args .keys .now) (c .before .args .m) (omega arith) (omega arith)
 
 mul-if1 : tie.Need-mul-if1 Inv-loop μ-loop
 mul-if1 c = omega arith
@@ -45,13 +45,13 @@ loop-again c =
     let ks : List ℕ = at-loop .before .before .args .keys .now in
     let n : ℕ = at-loop .before .before .args .m in
     ⊎-elim
-    (λ w. rw (w .2) (passed-taken AtMost ks n (at-loop .loop .inv) (omega arith) (omega arith) (λ z h. omega (arith, w .0 .taken))))
-    (λ w. rw (w .1) (passed-left AtMost ks n (at-loop .loop .inv) (omega arith) (omega (arith, w .0 .left))))
+    (λ w. rw (w .2) (so-far-taken AtMost ks n (at-loop .loop .inv) (omega arith) (omega arith) (λ z h. omega (arith, w .0 .taken))))
+    (λ w. rw (w .1) (so-far-left AtMost ks n (at-loop .loop .inv) (omega arith) (omega (arith, w .0 .left))))
     (c .if1 .came)
 
 returns : tie.Need-returns Inv-loop μ-loop
 returns c =
-    passed-all AtMost (c .before .before .before .args .keys .now) (c .before .before .before .args .m) (c .before .loop .inv) (c .loop-test .left)
+    so-far-all AtMost (c .before .before .before .args .keys .now) (c .before .before .before .args .m) (c .before .loop .inv) (c .loop-test .left)
 
 pub lowest-spec : {M : Type 1} → statement M
 lowest-spec =
