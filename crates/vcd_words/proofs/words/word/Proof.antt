@@ -145,49 +145,65 @@ returns-2 : tie.Need-returns-2
 unfolding readAt
 returns-2 c =
     let told = c .before .before in
-    λ w k. at-place _ _ Definition _ (told .before .before .if1 .left) (told .enum-told .given .1) (c .only2 .ensures ∙ ap only (c .before .definition .ensures w k))
+    λ w k.
+    at-place _ _ Definition _ (told .before .before .if1 .left) (told .enum-told .given .1)
+    (c .only2 .ensures ∙ ap only (c .before .definition .ensures w k))
 
 returns-3 : tie.Need-returns-3
 unfolding readAt
 returns-3 c =
     let told = c .before .before in
-    λ w k. at-place _ _ SkipDefinition _ (told .before .before .if1 .left) (told .enum-told2 .given .1) (c .only3 .ensures ∙ ap only (c .before .skipping .ensures (c .before .before .before .before .before .before .args .at) w k))
+    λ w k.
+    at-place _ _ SkipDefinition _ (told .before .before .if1 .left) (told .enum-told2 .given .1)
+    (c .only3 .ensures ∙ ap only (c .before .skipping .ensures (told .before .before .before .before .args .at) w k))
 
 returns-4 : tie.Need-returns-4
 unfolding readAt
 returns-4 c =
     let told = c .before .before in
-    λ w k. at-place _ _ Wire _ (told .before .before .if1 .left) (told .enum-told3 .given .1) (c .only4 .ensures ∙ ap only (c .before .expected .ensures w k))
+    λ w k.
+    at-place _ _ Wire _ (told .before .before .if1 .left) (told .enum-told3 .given .1)
+    (c .only4 .ensures ∙ ap only (c .before .expected .ensures w k))
 
 returns-5 : tie.Need-returns-5
 unfolding readAt
 returns-5 c =
     let told = c .before .before in
-    λ w k. at-place _ _ Width _ (told .before .before .if1 .left) (told .enum-told4 .given .1) (c .only5 .ensures ∙ ap only (c .before .width .ensures w k))
+    λ w k.
+    at-place _ _ Width _ (told .before .before .if1 .left) (told .enum-told4 .given .1)
+    (c .only5 .ensures ∙ ap only (c .before .width .ensures w k))
 
 returns-6 : tie.Need-returns-6
 unfolding readAt
 returns-6 c =
     let told = c .before .before in
-    λ w k. at-place _ _ Code _ (told .before .before .if1 .left) (told .enum-told5 .given .1) (c .only6 .ensures ∙ ap only (c .before .code .ensures w k))
+    λ w k.
+    at-place _ _ Code _ (told .before .before .if1 .left) (told .enum-told5 .given .1)
+    (c .only6 .ensures ∙ ap only (c .before .code .ensures w k))
 
 returns-7 : tie.Need-returns-7
 unfolding readAt
 returns-7 c =
     let told = c .before .before in
-    λ w k. at-place _ _ Name _ (told .before .before .if1 .left) (told .enum-told6 .given .1) (c .only7 .ensures ∙ ap only (c .before .name .ensures w k))
+    λ w k.
+    at-place _ _ Name _ (told .before .before .if1 .left) (told .enum-told6 .given .1)
+    (c .only7 .ensures ∙ ap only (c .before .name .ensures w k))
 
 returns-8 : tie.Need-returns-8
 unfolding readAt
 returns-8 c =
     let told = c .before .before in
-    λ w k. at-place _ _ VarEnd _ (told .before .before .if1 .left) (told .enum-told7 .given .1) (c .only8 .ensures ∙ ap only (c .before .expected2 .ensures w k))
+    λ w k.
+    at-place _ _ VarEnd _ (told .before .before .if1 .left) (told .enum-told7 .given .1)
+    (c .only8 .ensures ∙ ap only (c .before .expected2 .ensures w k))
 
 returns-9 : tie.Need-returns-9
 unfolding readAt
 returns-9 c =
     let told = c .before .before in
-    λ w k. at-place _ _ DefinitionsEnd _ (told .before .before .if1 .left) (told .enum-told8 .given .1) (c .only9 .ensures ∙ ap only (c .before .expected3 .ensures w k))
+    λ w k.
+    at-place _ _ DefinitionsEnd _ (told .before .before .if1 .left) (told .enum-told8 .given .1)
+    (c .only9 .ensures ∙ ap only (c .before .expected3 .ensures w k))
 
 returns-10 : tie.Need-returns-10
 unfolding readAt
@@ -198,25 +214,33 @@ returns-11 : tie.Need-returns-11
 unfolding readAt
 returns-11 c =
     let told = c .before .before in
-    λ w k. at-place _ _ SkipBody _ (told .before .before .if1 .left) (told .enum-told10 .given .1) (c .only10 .ensures ∙ ap only (c .before .skipping2 .ensures (c .before .before .before .before .before .before .args .at) w k))
+    λ w k.
+    at-place _ _ SkipBody _ (told .before .before .if1 .left) (told .enum-told10 .given .1)
+    (c .only10 .ensures ∙ ap only (c .before .skipping2 .ensures (told .before .before .before .before .args .at) w k))
 
 returns-12 : tie.Need-returns-12
 unfolding readAt
 returns-12 c =
     let told = c .before .before in
-    λ w k. at-place _ _ BodyCode _ (told .before .before .if1 .left) (told .enum-told11 .given .1) (c .only11 .ensures ∙ ap only (c .before .vector-code .ensures w k))
+    λ w k.
+    at-place _ _ BodyCode _ (told .before .before .if1 .left) (told .enum-told11 .given .1)
+    (c .only11 .ensures ∙ ap only (c .before .vector-code .ensures w k))
 
 returns-13 : tie.Need-returns-13
 unfolding readAt
 returns-13 c =
     let told = c .before .before in
-    λ w k. at-place _ _ Block _ (told .before .before .if1 .left) (told .enum-told12 .given .1) (c .only12 .ensures ∙ ap only (c .before .block .ensures w k))
+    λ w k.
+    at-place _ _ Block _ (told .before .before .if1 .left) (told .enum-told12 .given .1)
+    (c .only12 .ensures ∙ ap only (c .before .block .ensures w k))
 
 returns-14 : tie.Need-returns-14
 unfolding readAt
 returns-14 c =
     let told = c .before .before in
-    λ w k. at-place _ _ BlockCode _ (told .before .before .if1 .left) (told .enum-told13 .given .1) (c .only13 .ensures ∙ ap only (c .before .vector-code2 .ensures w k))
+    λ w k.
+    at-place _ _ BlockCode _ (told .before .before .if1 .left) (told .enum-told13 .given .1)
+    (c .only13 .ensures ∙ ap only (c .before .vector-code2 .ensures w k))
 
 pub word-spec : {M : Type 1} → statement M
 word-spec =
