@@ -16,6 +16,8 @@
 --   Agreement       a reader's variables and the declarations of the grammar
 --   Steps           words that show no fault of the grammar
 --   Derived         a text read without a fault is derived
+--   Following       one word that can stand at its place
+--   Changed         along changes, blocks and times
 --   Followed        a derived text shows neither 11 nor 12
 --   Grammar         both
 pub mod Lists
@@ -36,5 +38,7 @@ pub mod WrongTimes
 pub mod Agreement
 pub mod Steps
 pub mod Derived
+pub mod Following
+pub mod Changed
 pub mod Followed
 pub mod Grammar

@@ -2,6 +2,7 @@
 -- believed. Assumes nothing.
 --   Spelled      whether the word at an offset has these bytes
 --   Told         a word that is found passes a test
+--   OrSpelled    a word that is found before, or else has these bytes
 --   opensBlock   the words that begin a block
 --   Passes p     a reader in the place p is as it was after the words from an offset up to another
 --   SkipsTo p q   in the place p words are skipped up to $end, and then the place is q
@@ -33,6 +34,10 @@ pub record Spelled (t : List ℕ) (i : ℕ) (letters : List ℕ) (e : Ended) : T
 pub record Told (test : List ℕ → Bool) (t : List ℕ) (i : ℕ) (e : Ended) : Type 0 where
   pub found : e .found ≡ true → test (wordFrom t i) ≡ true
   pub end : e .found ≡ true → e .end ≡ i + length (wordFrom t i)
+
+-- whatever test the word that is found before passes, and the letters, the word that is found passes
+abbrev pub OrSpelled : List ℕ → ℕ → Ended → List ℕ → Ended → Type 0
+OrSpelled t i before letters e = (test : List ℕ → Bool) → Told test t i before → test letters ≡ true → Told test t i e
 
 -- begins a block, and is nothing else
 abbrev pub opensBlock : List ℕ → Bool

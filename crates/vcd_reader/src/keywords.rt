@@ -5,7 +5,7 @@ ghost use mathlib.Core.Bool.{true};
 ghost use lib.Dec.{ltb};
 ghost use Rattle.recording.specs.Words.{all, bytesOf};
 ghost use Rattle.recording.specs.Reading.{isSkipped};
-ghost use Rattle.vcd_reader.specs.Skipping.{endedWith, Spelled, Told, opensBlock};
+ghost use Rattle.vcd_reader.specs.Skipping.{endedWith, Spelled, Told, OrSpelled, opensBlock};
 use crate::Ended;
 use crate::runs;
 
@@ -47,23 +47,25 @@ pub fn comment_at(text: &[u8], at: usize) -> Ended
     spelled(text, at, b"$comment")
 }
 
+// The word that is found before, or else the word at the offset, if it has these bytes.
+fn or_spelled(before: Ended, text: &[u8], at: usize, letters: &[u8]) -> Ended
+    requires { ⌜ all (ltb 32) (now letters) ≡ true ⌝ }
+    ensures { λ r. ⌜ OrSpelled (now (text .entry)) at before (now (letters .entry)) r ⌝ }
+{
+    if before.found {
+        return before;
+    }
+    spelled(text, at, letters)
+}
+
 // The first word of a block.
 pub fn dump_at(text: &[u8], at: usize) -> Ended
     ensures { λ r. ⌜ Told opensBlock (now (text .entry)) at r ⌝ }
 {
     let vars = spelled(text, at, b"$dumpvars");
-    if vars.found {
-        return vars;
-    }
-    let all = spelled(text, at, b"$dumpall");
-    if all.found {
-        return all;
-    }
-    let on = spelled(text, at, b"$dumpon");
-    if on.found {
-        return on;
-    }
-    spelled(text, at, b"$dumpoff")
+    let all = or_spelled(vars, text, at, b"$dumpall");
+    let on = or_spelled(all, text, at, b"$dumpon");
+    or_spelled(on, text, at, b"$dumpoff")
 }
 
 // The first word of a definition that is skipped.
@@ -71,24 +73,9 @@ pub fn skipped_at(text: &[u8], at: usize) -> Ended
     ensures { λ r. ⌜ Told isSkipped (now (text .entry)) at r ⌝ }
 {
     let comment = spelled(text, at, b"$comment");
-    if comment.found {
-        return comment;
-    }
-    let date = spelled(text, at, b"$date");
-    if date.found {
-        return date;
-    }
-    let version = spelled(text, at, b"$version");
-    if version.found {
-        return version;
-    }
-    let timescale = spelled(text, at, b"$timescale");
-    if timescale.found {
-        return timescale;
-    }
-    let scope = spelled(text, at, b"$scope");
-    if scope.found {
-        return scope;
-    }
-    spelled(text, at, b"$upscope")
+    let date = or_spelled(comment, text, at, b"$date");
+    let version = or_spelled(date, text, at, b"$version");
+    let timescale = or_spelled(version, text, at, b"$timescale");
+    let scope = or_spelled(timescale, text, at, b"$scope");
+    or_spelled(scope, text, at, b"$upscope")
 }

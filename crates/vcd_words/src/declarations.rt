@@ -97,10 +97,7 @@ pub fn declares(r: Reader, s: Signal) -> bool
     if !all_fit(r) {
         return false;
     }
-    if is_used(r, r.pending.code) {
-        return false;
-    }
-    true
+    !is_used(r, r.pending.code)
 }
 
 // The variable of a name.

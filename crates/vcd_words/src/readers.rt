@@ -29,23 +29,33 @@ pub fn vector_with(length: u8, v: Value) -> Vector
     Vector { length, value: v }
 }
 
+// None is declared; stb is 0, and the others are x.
+fn none_declared() -> Variables
+    ensures { λ r. ⌜ r ≡ startOf .variables ⌝ }
+{
+    let x = Variable {
+        code: 0,
+        width: 0,
+        value: Value {
+            known: false,
+            number: 0,
+        },
+    };
+    let mut stb = x;
+    stb.value.known = true;
+    Variables {
+        stb,
+        cmd: x,
+        core: x,
+        arg: x,
+        prio: x,
+    }
+}
+
 // Before the first word.
 pub fn start() -> Reader
     ensures { λ r. ⌜ r ≡ startOf ⌝ }
 {
-    let v = Value {
-        known: false,
-        number: 0,
-    };
-    let low = Value {
-        known: true,
-        number: 0,
-    };
-    let x = Variable {
-        code: 0,
-        width: 0,
-        value: v,
-    };
     Reader {
         place: Place::Definition,
         pending: Pending {
@@ -53,20 +63,13 @@ pub fn start() -> Reader
             code: 0,
             vector: Vector {
                 length: 0,
-                value: v,
+                value: Value {
+                    known: false,
+                    number: 0,
+                },
             },
         },
-        variables: Variables {
-            stb: Variable {
-                code: 0,
-                width: 0,
-                value: low,
-            },
-            cmd: x,
-            core: x,
-            arg: x,
-            prio: x,
-        },
+        variables: none_declared(),
         stamp: Stamp {
             opened: false,
             time: 0,

@@ -60,7 +60,9 @@ pub fn is_separator(b: u8) -> bool
 
 // The bytes from an offset on, up to a separator or the slice's end: where they end, and what is kept of the last sixteen.
 fn spell(text: &[u8], from: usize, high: u64, low: u64) -> Spelled
-    ensures { λ r. ⌜ (r .end ≡ from + length (run (drop from (now (text .entry))))) × (r .high ≡ spellHigh high low (run (drop from (now (text .entry))))) × (r .low ≡ spellLow low (run (drop from (now (text .entry))))) ⌝ }
+    ensures { λ r. ⌜ (r .end ≡ from + length (run (drop from (now (text .entry))))) ×
+        (r .high ≡ spellHigh high low (run (drop from (now (text .entry))))) ×
+        (r .low ≡ spellLow low (run (drop from (now (text .entry))))) ⌝ }
 {
     let mut h = high;
     let mut l = low;
@@ -309,7 +311,8 @@ fn longer(length: u16, more: usize) -> u16
 
 // The bytes of a word from an offset on, up to a separator or the slice's end, added to what is kept of the word.
 pub fn scan(text: &[u8], from: usize, p: Partial) -> Scanned
-    ensures { λ r. ⌜ (r .end ≡ from + length (run (drop from (now (text .entry))))) × (r .partial ≡ extendedBy p (run (drop from (now (text .entry))))) ⌝ }
+    ensures { λ r. ⌜ (r .end ≡ from + length (run (drop from (now (text .entry))))) ×
+        (r .partial ≡ extendedBy p (run (drop from (now (text .entry))))) ⌝ }
 {
     let s = spell(text, from, p.high, p.low);
     let end = s.end;

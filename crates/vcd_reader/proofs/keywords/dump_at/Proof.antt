@@ -12,35 +12,33 @@ slice-aggregate-spelled c = search needs
 spelled-requires : tie.Need-spelled-requires
 spelled-requires c κs = search needs
 
+slice-aggregate-or-spelled : tie.Need-slice-aggregate-or-spelled
+slice-aggregate-or-spelled c = search needs
+
+or-spelled-requires : tie.Need-or-spelled-requires
+or-spelled-requires c κs = search needs
+
+slice-aggregate-or-spelled-2 : tie.Need-slice-aggregate-or-spelled-2
+slice-aggregate-or-spelled-2 c = search needs
+
+or-spelled-requires-2 : tie.Need-or-spelled-requires-2
+or-spelled-requires-2 c κs = search needs
+
+slice-aggregate-or-spelled-3 : tie.Need-slice-aggregate-or-spelled-3
+slice-aggregate-or-spelled-3 c = search needs
+
+or-spelled-requires-3 : tie.Need-or-spelled-requires-3
+or-spelled-requires-3 c κs = search needs
+
 returns : tie.Need-returns
-returns c = told-by opensBlock _ (c .before .spelled .ensures) refl
-
-slice-aggregate-spelled-2 : tie.Need-slice-aggregate-spelled-2
-slice-aggregate-spelled-2 c = search needs
-
-spelled-requires-2 : tie.Need-spelled-requires-2
-spelled-requires-2 c κs = search needs
-
-returns-2 : tie.Need-returns-2
-returns-2 c = told-by opensBlock _ (c .before .spelled2 .ensures) refl
-
-slice-aggregate-spelled-3 : tie.Need-slice-aggregate-spelled-3
-slice-aggregate-spelled-3 c = search needs
-
-spelled-requires-3 : tie.Need-spelled-requires-3
-spelled-requires-3 c κs = search needs
-
-returns-3 : tie.Need-returns-3
-returns-3 c = told-by opensBlock _ (c .before .spelled3 .ensures) refl
-
-slice-aggregate-spelled-4 : tie.Need-slice-aggregate-spelled-4
-slice-aggregate-spelled-4 c = search needs
-
-spelled-requires-4 : tie.Need-spelled-requires-4
-spelled-requires-4 c κs = search needs
-
-returns-4 : tie.Need-returns-4
-returns-4 c = told-by opensBlock _ (c .spelled4 .ensures) refl
+returns c =
+    let on = c .before .before in
+    let all = on .before .before in
+    let vars = all .before .before in
+    let told1 = told-by opensBlock _ (vars .spelled .ensures) refl in
+    let told2 = all .or-spelled .ensures opensBlock told1 refl in
+    let told3 = on .or-spelled2 .ensures opensBlock told2 refl in
+    c .or-spelled3 .ensures opensBlock told3 refl
 
 pub dump-at-spec : {M : Type 1} → statement M
 dump-at-spec =
@@ -48,13 +46,10 @@ dump-at-spec =
     (tie.spec
     slice-aggregate-spelled
     spelled-requires
-    returns
-    slice-aggregate-spelled-2
-    spelled-requires-2
-    returns-2
-    slice-aggregate-spelled-3
-    spelled-requires-3
-    returns-3
-    slice-aggregate-spelled-4
-    spelled-requires-4
-    returns-4)
+    slice-aggregate-or-spelled
+    or-spelled-requires
+    slice-aggregate-or-spelled-2
+    or-spelled-requires-2
+    slice-aggregate-or-spelled-3
+    or-spelled-requires-3
+    returns)

@@ -12,53 +12,49 @@ slice-aggregate-spelled c = search needs
 spelled-requires : tie.Need-spelled-requires
 spelled-requires c κs = search needs
 
+slice-aggregate-or-spelled : tie.Need-slice-aggregate-or-spelled
+slice-aggregate-or-spelled c = search needs
+
+or-spelled-requires : tie.Need-or-spelled-requires
+or-spelled-requires c κs = search needs
+
+slice-aggregate-or-spelled-2 : tie.Need-slice-aggregate-or-spelled-2
+slice-aggregate-or-spelled-2 c = search needs
+
+or-spelled-requires-2 : tie.Need-or-spelled-requires-2
+or-spelled-requires-2 c κs = search needs
+
+slice-aggregate-or-spelled-3 : tie.Need-slice-aggregate-or-spelled-3
+slice-aggregate-or-spelled-3 c = search needs
+
+or-spelled-requires-3 : tie.Need-or-spelled-requires-3
+or-spelled-requires-3 c κs = search needs
+
+slice-aggregate-or-spelled-4 : tie.Need-slice-aggregate-or-spelled-4
+slice-aggregate-or-spelled-4 c = search needs
+
+or-spelled-requires-4 : tie.Need-or-spelled-requires-4
+or-spelled-requires-4 c κs = search needs
+
+slice-aggregate-or-spelled-5 : tie.Need-slice-aggregate-or-spelled-5
+slice-aggregate-or-spelled-5 c = search needs
+
+or-spelled-requires-5 : tie.Need-or-spelled-requires-5
+or-spelled-requires-5 c κs = search needs
+
 returns : tie.Need-returns
-returns c = told-by isSkipped _ (c .before .spelled .ensures) refl
-
-slice-aggregate-spelled-2 : tie.Need-slice-aggregate-spelled-2
-slice-aggregate-spelled-2 c = search needs
-
-spelled-requires-2 : tie.Need-spelled-requires-2
-spelled-requires-2 c κs = search needs
-
-returns-2 : tie.Need-returns-2
-returns-2 c = told-by isSkipped _ (c .before .spelled2 .ensures) refl
-
-slice-aggregate-spelled-3 : tie.Need-slice-aggregate-spelled-3
-slice-aggregate-spelled-3 c = search needs
-
-spelled-requires-3 : tie.Need-spelled-requires-3
-spelled-requires-3 c κs = search needs
-
-returns-3 : tie.Need-returns-3
-returns-3 c = told-by isSkipped _ (c .before .spelled3 .ensures) refl
-
-slice-aggregate-spelled-4 : tie.Need-slice-aggregate-spelled-4
-slice-aggregate-spelled-4 c = search needs
-
-spelled-requires-4 : tie.Need-spelled-requires-4
-spelled-requires-4 c κs = search needs
-
-returns-4 : tie.Need-returns-4
-returns-4 c = told-by isSkipped _ (c .before .spelled4 .ensures) refl
-
-slice-aggregate-spelled-5 : tie.Need-slice-aggregate-spelled-5
-slice-aggregate-spelled-5 c = search needs
-
-spelled-requires-5 : tie.Need-spelled-requires-5
-spelled-requires-5 c κs = search needs
-
-returns-5 : tie.Need-returns-5
-returns-5 c = told-by isSkipped _ (c .before .spelled5 .ensures) refl
-
-slice-aggregate-spelled-6 : tie.Need-slice-aggregate-spelled-6
-slice-aggregate-spelled-6 c = search needs
-
-spelled-requires-6 : tie.Need-spelled-requires-6
-spelled-requires-6 c κs = search needs
-
-returns-6 : tie.Need-returns-6
-returns-6 c = told-by isSkipped _ (c .spelled6 .ensures) refl
+returns c =
+    let scope = c .before .before in
+    let timescale = scope .before .before in
+    let version = timescale .before .before in
+    let date = version .before .before in
+    let comment = date .before .before in
+    let told1 = told-by isSkipped _ (comment .spelled .ensures) refl in
+    let told2 = date .or-spelled .ensures isSkipped told1 refl in
+    let told3 = version .or-spelled2 .ensures isSkipped told2 refl in
+    let told4 = timescale .or-spelled3 .ensures isSkipped told3 refl in
+    let told5 = scope .or-spelled4 .ensures isSkipped told4 refl in
+    c .or-spelled5 .ensures isSkipped told5 refl
 
 pub skipped-at-spec : {M : Type 1} → statement M
 skipped-at-spec =
@@ -66,19 +62,14 @@ skipped-at-spec =
     (tie.spec
     slice-aggregate-spelled
     spelled-requires
-    returns
-    slice-aggregate-spelled-2
-    spelled-requires-2
-    returns-2
-    slice-aggregate-spelled-3
-    spelled-requires-3
-    returns-3
-    slice-aggregate-spelled-4
-    spelled-requires-4
-    returns-4
-    slice-aggregate-spelled-5
-    spelled-requires-5
-    returns-5
-    slice-aggregate-spelled-6
-    spelled-requires-6
-    returns-6)
+    slice-aggregate-or-spelled
+    or-spelled-requires
+    slice-aggregate-or-spelled-2
+    or-spelled-requires-2
+    slice-aggregate-or-spelled-3
+    or-spelled-requires-3
+    slice-aggregate-or-spelled-4
+    or-spelled-requires-4
+    slice-aggregate-or-spelled-5
+    or-spelled-requires-5
+    returns)

@@ -52,28 +52,13 @@ returns-4 : tie.Need-returns-4
 unfolding declares
 returns-4 c =
     let before4 = c .before .before .before .before in
-    let before8 = before4 .before .before .before .before in
     rw (
-      ← (before4 .before .before .width-of .ensures),
-      ← (before8 .before .variable .ensures),
-      sym (before8 .is-declared .ensures) ∙ before4 .before .before .before .if1 .left,
-      eq-eqb _ _ (before4 .if2 .left),
-      passed (c .before .before .before .all-fit .ensures) (c .before .before .if3 .left),
-      sym (c .before .is-used .ensures) ∙ c .if4 .taken,
-    )
-
-returns-5 : tie.Need-returns-5
-unfolding declares
-returns-5 c =
-    let before4 = c .before .before .before .before in
-    let before8 = before4 .before .before .before .before in
-    rw (
-      ← (before4 .before .before .width-of .ensures),
-      ← (before8 .before .variable .ensures),
-      sym (before8 .is-declared .ensures) ∙ before4 .before .before .before .if1 .left,
-      eq-eqb _ _ (before4 .if2 .left),
-      passed (c .before .before .before .all-fit .ensures) (c .before .before .if3 .left),
-      sym (c .before .is-used .ensures) ∙ c .if4 .left,
+      ← (before4 .before .width-of .ensures),
+      ← (before4 .before .before .before .before .variable .ensures),
+      sym (before4 .before .before .before .is-declared .ensures) ∙ before4 .before .before .if1 .left,
+      eq-eqb _ _ (c .before .before .before .if2 .left),
+      passed (c .before .before .all-fit .ensures) (c .before .if3 .left),
+      c .is-used .ensures,
     )
 
 pub declares-spec : {M : Type 1} → statement M
@@ -88,5 +73,4 @@ declares-spec =
     all-fit-requires
     returns-3
     is-used-requires
-    returns-4
-    returns-5)
+    returns-4)

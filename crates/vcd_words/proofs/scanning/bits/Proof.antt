@@ -69,7 +69,8 @@ returns-2 : tie.Need-returns-2 Inv-loop μ-loop
 returns-2 c =
     let l = c .before .loop in
     let a = c .before .before .before .args in
-    sym (ap (moreBits (numberWith (a .n .whole) (l .known) (a .n .over) (l .value))) (between-end (a .text .now) (l .i) (a .end) (omega arith)))
+    let none = between-end (a .text .now) (l .i) (a .end) (omega arith) in
+    sym (ap (moreBits (numberWith (a .n .whole) (l .known) (a .n .over) (l .value))) none)
     ∙ l .inv
 
 pub bits-spec : {M : Type 1} → statement M

@@ -134,89 +134,95 @@ vector-code-requires-2 c κs = search needs
 only-requires-13 : tie.Need-only-requires-13
 only-requires-13 c κs = search needs
 
--- at a place, with no fault
-at-place : (r : Reader) (w : Word) (p : Place) (a : Read) → r .fault .number ≡ 0 → r .place ≡ p → a ≡ readAt p r w → a ≡ readWord r w
+-- the reader, which has no fault
+abbrev reader : tie.Else1 → Reader
+reader good = good .before .before .args .r
+
+-- at a place
+at-place : (good : tie.Else1) (w : Word) (p : Place) (a : Read) → (reader good) .place ≡ p → a ≡ readAt p (reader good) w →
+    a ≡ readWord (reader good) w
 unfolding readWord
-at-place r w p a good e f =
+at-place good w p a e f =
+    let r = reader good in
     f ∙ ap (λ (x : Place). readAt x r w) (sym e)
-    ∙ sym (ap (λ (b : Bool). cond b (readAt (r .place) r w) (only r)) (eq-eqb _ _ good))
+    ∙ sym (ap (λ (b : Bool). cond b (readAt (r .place) r w) (only r)) (eq-eqb _ _ (good .if1 .left)))
 
 returns-2 : tie.Need-returns-2
 unfolding readAt
-returns-2 c =
-    let told = c .before .before in
-    λ w k. at-place _ _ Definition _ (told .before .before .if1 .left) (told .enum-told .given .1) (c .only2 .ensures ∙ ap only (c .before .definition .ensures w k))
+returns-2 c = λ w k.
+    at-place (c .before .before .before .before) _ Definition _ (c .before .before .enum-told .given .1)
+    (c .only2 .ensures ∙ ap only (c .before .definition .ensures w k))
 
 returns-3 : tie.Need-returns-3
 unfolding readAt
-returns-3 c =
-    let told = c .before .before in
-    λ w k. at-place _ _ SkipDefinition _ (told .before .before .if1 .left) (told .enum-told2 .given .1) (c .only3 .ensures ∙ ap only (c .before .skipping .ensures (c .before .before .before .before .before .before .args .at) w k))
+returns-3 c = λ w k.
+    at-place (c .before .before .before .before) _ SkipDefinition _ (c .before .before .enum-told2 .given .1)
+    (c .only3 .ensures ∙ ap only (c .before .skipping .ensures (c .before .before .before .before .before .before .args .at) w k))
 
 returns-4 : tie.Need-returns-4
 unfolding readAt
-returns-4 c =
-    let told = c .before .before in
-    λ w k. at-place _ _ Wire _ (told .before .before .if1 .left) (told .enum-told3 .given .1) (c .only4 .ensures ∙ ap only (c .before .expected .ensures w k))
+returns-4 c = λ w k.
+    at-place (c .before .before .before .before) _ Wire _ (c .before .before .enum-told3 .given .1)
+    (c .only4 .ensures ∙ ap only (c .before .expected .ensures w k))
 
 returns-5 : tie.Need-returns-5
 unfolding readAt
-returns-5 c =
-    let told = c .before .before in
-    λ w k. at-place _ _ Width _ (told .before .before .if1 .left) (told .enum-told4 .given .1) (c .only5 .ensures ∙ ap only (c .before .width .ensures w k))
+returns-5 c = λ w k.
+    at-place (c .before .before .before .before) _ Width _ (c .before .before .enum-told4 .given .1)
+    (c .only5 .ensures ∙ ap only (c .before .width .ensures w k))
 
 returns-6 : tie.Need-returns-6
 unfolding readAt
-returns-6 c =
-    let told = c .before .before in
-    λ w k. at-place _ _ Code _ (told .before .before .if1 .left) (told .enum-told5 .given .1) (c .only6 .ensures ∙ ap only (c .before .code .ensures w k))
+returns-6 c = λ w k.
+    at-place (c .before .before .before .before) _ Code _ (c .before .before .enum-told5 .given .1)
+    (c .only6 .ensures ∙ ap only (c .before .code .ensures w k))
 
 returns-7 : tie.Need-returns-7
 unfolding readAt
-returns-7 c =
-    let told = c .before .before in
-    λ w k. at-place _ _ Name _ (told .before .before .if1 .left) (told .enum-told6 .given .1) (c .only7 .ensures ∙ ap only (c .before .name .ensures w k))
+returns-7 c = λ w k.
+    at-place (c .before .before .before .before) _ Name _ (c .before .before .enum-told6 .given .1)
+    (c .only7 .ensures ∙ ap only (c .before .name .ensures w k))
 
 returns-8 : tie.Need-returns-8
 unfolding readAt
-returns-8 c =
-    let told = c .before .before in
-    λ w k. at-place _ _ VarEnd _ (told .before .before .if1 .left) (told .enum-told7 .given .1) (c .only8 .ensures ∙ ap only (c .before .expected2 .ensures w k))
+returns-8 c = λ w k.
+    at-place (c .before .before .before .before) _ VarEnd _ (c .before .before .enum-told7 .given .1)
+    (c .only8 .ensures ∙ ap only (c .before .expected2 .ensures w k))
 
 returns-9 : tie.Need-returns-9
 unfolding readAt
-returns-9 c =
-    let told = c .before .before in
-    λ w k. at-place _ _ DefinitionsEnd _ (told .before .before .if1 .left) (told .enum-told8 .given .1) (c .only9 .ensures ∙ ap only (c .before .expected3 .ensures w k))
+returns-9 c = λ w k.
+    at-place (c .before .before .before .before) _ DefinitionsEnd _ (c .before .before .enum-told8 .given .1)
+    (c .only9 .ensures ∙ ap only (c .before .expected3 .ensures w k))
 
 returns-10 : tie.Need-returns-10
 unfolding readAt
 returns-10 c = λ w k.
-    at-place _ _ Body _ (c .before .before .before .if1 .left) (c .before .enum-told9 .given .1) (c .body .ensures w k)
+    at-place (c .before .before .before) _ Body _ (c .before .enum-told9 .given .1) (c .body .ensures w k)
 
 returns-11 : tie.Need-returns-11
 unfolding readAt
-returns-11 c =
-    let told = c .before .before in
-    λ w k. at-place _ _ SkipBody _ (told .before .before .if1 .left) (told .enum-told10 .given .1) (c .only10 .ensures ∙ ap only (c .before .skipping2 .ensures (c .before .before .before .before .before .before .args .at) w k))
+returns-11 c = λ w k.
+    at-place (c .before .before .before .before) _ SkipBody _ (c .before .before .enum-told10 .given .1)
+    (c .only10 .ensures ∙ ap only (c .before .skipping2 .ensures (c .before .before .before .before .before .before .args .at) w k))
 
 returns-12 : tie.Need-returns-12
 unfolding readAt
-returns-12 c =
-    let told = c .before .before in
-    λ w k. at-place _ _ BodyCode _ (told .before .before .if1 .left) (told .enum-told11 .given .1) (c .only11 .ensures ∙ ap only (c .before .vector-code .ensures w k))
+returns-12 c = λ w k.
+    at-place (c .before .before .before .before) _ BodyCode _ (c .before .before .enum-told11 .given .1)
+    (c .only11 .ensures ∙ ap only (c .before .vector-code .ensures w k))
 
 returns-13 : tie.Need-returns-13
 unfolding readAt
-returns-13 c =
-    let told = c .before .before in
-    λ w k. at-place _ _ Block _ (told .before .before .if1 .left) (told .enum-told12 .given .1) (c .only12 .ensures ∙ ap only (c .before .block .ensures w k))
+returns-13 c = λ w k.
+    at-place (c .before .before .before .before) _ Block _ (c .before .before .enum-told12 .given .1)
+    (c .only12 .ensures ∙ ap only (c .before .block .ensures w k))
 
 returns-14 : tie.Need-returns-14
 unfolding readAt
-returns-14 c =
-    let told = c .before .before in
-    λ w k. at-place _ _ BlockCode _ (told .before .before .if1 .left) (told .enum-told13 .given .1) (c .only13 .ensures ∙ ap only (c .before .vector-code2 .ensures w k))
+returns-14 c = λ w k.
+    at-place (c .before .before .before .before) _ BlockCode _ (c .before .before .enum-told13 .given .1)
+    (c .only13 .ensures ∙ ap only (c .before .vector-code2 .ensures w k))
 
 pub word-spec : {M : Type 1} → statement M
 word-spec =
