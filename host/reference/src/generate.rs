@@ -4,7 +4,8 @@ use std::ops::RangeInclusive;
 
 use crate::random::Random;
 use crate::records::{
-    Command, Controller, Core, CoreNumber, MessageBox, Source, SourceId, MAX_PRIORITY, MAX_SOURCES,
+    Command, Controller, Core, CoreNumber, Listed, MessageBox, Source, SourceId, MAX_PRIORITY,
+    MAX_SOURCES,
 };
 use crate::reference::{self, top_priority};
 
@@ -61,6 +62,41 @@ pub fn final_state(history: &History) -> Controller {
         reference::execute(&mut controller, command);
     }
     controller
+}
+
+/// The commands of a history that goes on from a sound state.
+pub fn commands_from(seed: u64, sound: &Controller, length: usize, mix: Mix) -> Vec<Command> {
+    let mut generator = Generator::going_on(seed, sound.clone(), mix);
+    (0..length).map(|_| generator.command()).collect()
+}
+
+/// Lists for a sound state, or one made from it: of no command, of one, of two and of 3 to 40, each
+/// once whole, and once with a number above 7 in the place of a command.
+pub fn lists_from(random: &mut Random, sound: &Controller) -> Vec<Vec<Listed>> {
+    let many = usize::from(random.within(3..=40));
+    let mut lists = Vec::new();
+    for length in [0, 1, 2, many] {
+        let mix = random.pick(&Mix::ALL);
+        let commands = commands_from(random.bits(), sound, length, mix);
+        let list: Vec<Listed> = commands.into_iter().map(Listed::Command).collect();
+        if let Some(place) = random.pick_if_any(0..length) {
+            let mut ended = list.clone();
+            ended[place] = unreadable(random, sound);
+            lists.push(ended);
+        }
+        lists.push(list);
+    }
+    lists
+}
+
+/// A number above 7, often one with a command's low bits; what stands beside it is mostly in range.
+fn unreadable(random: &mut Random, sound: &Controller) -> Listed {
+    let any = random.within(8..=255) as u8;
+    Listed::Unreadable {
+        number: random.pick(&[8, 8 + any % 8, 128 + any % 8, 255, any]),
+        at: random.within(0..=sound.n),
+        priority: random.within(0..=top_priority(sound.n)),
+    }
 }
 
 /// Sizes in range; the smallest, the largest and the ones where the top priority changes come
@@ -292,20 +328,25 @@ struct Generator {
 
 impl Generator {
     fn new(seed: u64, n: u16, m: u16, mix: Mix) -> Generator {
-        let mut random = Random::new(seed);
-        let palette = palette(&mut random, top_priority(n));
-        let mut opening = Vec::new();
+        let mut generator = Generator::going_on(seed, Controller::reset(n, m), mix);
         if mix != Mix::Even {
-            for id in (1..=n).map(SourceId).filter(|_| !random.one_in(8)) {
-                opening.push(Command::Unmask(id));
-            }
+            let random = &mut generator.random;
+            let unmasked = (1..=n).map(SourceId).filter(|_| !random.one_in(8));
+            generator.opening = unmasked.map(Command::Unmask).collect();
         }
+        generator
+    }
+
+    /// Goes on from a sound state.
+    fn going_on(seed: u64, controller: Controller, mix: Mix) -> Generator {
+        let mut random = Random::new(seed);
+        let palette = palette(&mut random, top_priority(controller.n));
         Generator {
             random,
-            controller: Controller::reset(n, m),
+            controller,
             mix,
             palette,
-            opening,
+            opening: Vec::new(),
         }
     }
 

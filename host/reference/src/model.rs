@@ -1,7 +1,16 @@
 //! What every model of the controller offers, so that one workload runs through any of them.
 
-use crate::records::{Answer, Command, Controller, Core, Source};
+use crate::records::{Answer, Command, Controller, Core, Listed, Source};
 use crate::reference;
+
+/// What a list leaves besides the state.
+#[derive(Clone, Debug, PartialEq, Eq)]
+pub struct Ran {
+    /// How many commands were taken.
+    pub taken: u64,
+    /// Every answer that was written.
+    pub answers: Vec<Answer>,
+}
 
 /// A model of the controller. It holds its state in a form of its own.
 pub trait Model {
@@ -21,6 +30,15 @@ pub trait Model {
     fn run(&self, state: &mut Self::State, commands: &[Command]) -> Vec<Answer> {
         let execute = |&command: &Command| self.execute(state, command);
         commands.iter().map(execute).collect()
+    }
+
+    /// Runs a list up to the first entry that is no command: what comes before it, unless the model has a call for it.
+    fn run_listed(&self, state: &mut Self::State, list: &[Listed]) -> Ran {
+        let commands: Vec<Command> = list.iter().map_while(|entry| entry.command()).collect();
+        Ran {
+            taken: commands.len() as u64,
+            answers: self.run(state, &commands),
+        }
     }
 
     /// Takes over a state as it is, sound or not.
