@@ -1,6 +1,7 @@
 //! The proved library, and the typed wrapper over it, do what the independent model does: call by call, in whole lists, from sound and
 //! broken states, and on lent records.
 
+mod lists;
 mod peer;
 mod recordings;
 mod slips;
@@ -83,7 +84,11 @@ fn every_slip_of_the_library_is_found() {
         let library = with_slip(slip, || first_difference(&Library, 4, 100));
         assert!(library.is_some(), "{slip:?}");
         let wrapper = with_slip(slip, || first_difference(&Wrapper, 4, 100));
-        assert!(wrapper.is_some(), "{slip:?}, by the wrapper");
+        assert_eq!(
+            wrapper.is_none(),
+            slip.is_behind(),
+            "{slip:?}, by the wrapper"
+        );
     }
 }
 

@@ -7,7 +7,7 @@ use std::cell::Cell;
 use psic::raw::{Claimed, Found, Ranged, Report};
 use psic::{Core, Source, ANSWER_SIZE, COMMAND_SIZE, STATE_SIZE};
 
-/// What of a call's answer is altered, if the call was accepted.
+/// What of a call's answer is altered, if the call was accepted; or, where its name says so, if a list's start was unsound.
 #[derive(Clone, Copy, Debug, PartialEq, Eq)]
 pub enum Slip {
     MakeNumber,
@@ -19,6 +19,12 @@ pub enum Slip {
     RunNumber,
     RunCycles,
     RunState,
+    /// The count of a list that a number above 7 ends is one more.
+    RunCount,
+    RunBehindAnswers,
+    RunStateOfUnsoundStart,
+    /// The second answer, and not the first.
+    RunNumberOfUnsoundStart,
     SearchNumber,
     SearchPosition,
     RangesNumber,
@@ -44,7 +50,7 @@ pub enum Slip {
 
 impl Slip {
     /// Of the calls on a state and on lent records.
-    pub const OF_COMMANDS: [Slip; 16] = [
+    pub const OF_COMMANDS: [Slip; 20] = [
         Slip::MakeNumber,
         Slip::MakeState,
         Slip::ExecuteNumber,
@@ -54,6 +60,10 @@ impl Slip {
         Slip::RunNumber,
         Slip::RunCycles,
         Slip::RunState,
+        Slip::RunCount,
+        Slip::RunBehindAnswers,
+        Slip::RunStateOfUnsoundStart,
+        Slip::RunNumberOfUnsoundStart,
         Slip::SearchNumber,
         Slip::SearchPosition,
         Slip::RangesNumber,
@@ -81,9 +91,11 @@ impl Slip {
         Slip::ReplayBehindAnswers,
     ];
 
-    /// Whether the slip is in memory that the typed functions don't hand out.
+    /// Whether the slip is in memory that the typed functions don't hand out, or in lists that they don't hand in.
     pub fn is_behind(self) -> bool {
         let behind = [
+            Slip::RunCount,
+            Slip::RunBehindAnswers,
             Slip::ReadBehindCommands,
             Slip::ReadBehindTimes,
             Slip::ReplayStateOfRefusedSizes,
@@ -212,14 +224,25 @@ unsafe extern "C" fn __wrap_psic_run(
     // SAFETY: the arguments are passed on as they came; the buffers of a call that took commands are a state's and theirs.
     unsafe {
         let taken = __real_psic_run(state, state_len, list, list_len, answers, answers_len);
+        let ended = taken != u64::MAX && COMMAND_SIZE * (taken as usize) < list_len;
+        if ended && slips(Slip::RunCount) {
+            return taken + 1;
+        }
         if taken == 0 || taken == u64::MAX {
             return taken;
         }
-        let last = answers.add(ANSWER_SIZE * (taken as usize - 1));
+        let behind = answers.add(ANSWER_SIZE * taken as usize);
+        let last = behind.sub(ANSWER_SIZE);
+        let unsound = *answers == 1;
         match SLIP.get() {
             Some(Slip::RunState) => flip_last(state),
             Some(Slip::RunNumber) => *last = if *last == 0 { 8 } else { 0 },
             Some(Slip::RunCycles) if *last == 0 => *last.add(3) += 1,
+            Some(Slip::RunBehindAnswers) if ended => *behind = 0,
+            Some(Slip::RunStateOfUnsoundStart) if unsound => flip_last(state),
+            Some(Slip::RunNumberOfUnsoundStart) if unsound && taken > 1 => {
+                *answers.add(ANSWER_SIZE) = 0
+            }
             _ => {}
         }
         taken
