@@ -1,4 +1,5 @@
-/* How much stack a call of the library takes: a thread runs on a painted stack, and what is left of the paint tells. */
+/* How much stack a call of the library takes: a thread runs on a painted stack, and what is left of the paint tells.
+ * To be linked with -z now: else the first call of memcpy or memset counts what the dynamic linker takes to find it. */
 #define _GNU_SOURCE
 #include <pthread.h>
 #include <stdio.h>

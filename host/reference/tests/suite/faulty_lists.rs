@@ -37,7 +37,7 @@ pub enum ListFault {
     BoxedRequestWaits,
     // Settling by kept numbers.
     /// Set core priority ends after its first delivery.
-    FirstDeliveryOnly,
+    SetCoreDeliversOnce,
     /// A delivered request keeps its number, and so stays a candidate.
     DeliveredKeepsItsNumber,
     /// A core keeps its number when a request goes into its box.
@@ -71,7 +71,7 @@ impl ListFault {
         ListFault::PendingTriggerStored,
         ListFault::EmptyBoxClaimed,
         ListFault::BoxedRequestWaits,
-        ListFault::FirstDeliveryOnly,
+        ListFault::SetCoreDeliversOnce,
         ListFault::DeliveredKeepsItsNumber,
         ListFault::FilledCoreKeepsItsNumber,
         ListFault::ClaimedCoreKeepsItsNumber,
@@ -310,7 +310,7 @@ impl FaultyList {
         }
         kept.renew_core(state, written);
         let most = match self.fault {
-            ListFault::FirstDeliveryOnly => 1,
+            ListFault::SetCoreDeliversOnce => 1,
             _ => state.m,
         };
         let mut deliveries = 0;
