@@ -7,6 +7,7 @@ fn main() {
         "psic_execute",
         "psic_run",
         "psic_highest_in",
+        "psic_ranges_in",
         "psic_claim_in_place",
         "psic_read",
         "psic_replay",

@@ -94,7 +94,7 @@ lower-order l = converse (by-key (λ (k : ℕ). coreKey (getD l k noCore)))
 
 -- ---- the first in that order
 
-least-first : (l : List Core) (m : ℕ) → 1 ≤ m → FirstIn (lower l) 0 m (least l m)
+pub least-first : (l : List Core) (m : ℕ) → 1 ≤ m → FirstIn (lower l) 0 m (least l m)
 unfolding least
 least-first l m h = walk-first (lower l) (lower-order l) m h
 

@@ -1,8 +1,6 @@
 -- The search that skips ranges without a candidate: what a look into a range learns from looks into its halves. Assumes nothing.
 --   highest-none, highest-some     in a range without a candidate the tree answers its start, in another a candidate
 --   look-one                       a range of one key
---   pair-asked, pair-answers       a range of two is searched as a pair
---   pair-right, pair-left          a pair, and its count by the marks, which `pair-order` keeps small
 --   Halved                         a range of at least two, cut in two
 --   only-right, first, second      what is asked of a look into a half: the right one alone; the left one, and then the right one
 --   skipped-left, skipped-right    a half without a candidate is skipped
@@ -16,7 +14,6 @@ use mathlib.Core.Path.{_≡_, refl, ap, _∙_}
 use mathlib.Core.List.{List}
 use mathlib.Core.Bool.{true, false}
 use native.Mathlib.Omega.{arith}
-use native.Mathlib.Numerals.{add-one}
 use native.Mathlib.Decide.{decLe}
 use lib.ListN.{getD}
 use lib.Dec.{ltb}
@@ -28,8 +25,8 @@ use Rattle.model.specs.Requests.{candidate}
 use Rattle.model.specs.Arbitration.{rank, highest, candidateAt, rangesWith}
 use Rattle.lists.proofs.Bools.{clash, refuted, Flag, on, off, flag}
 use Rattle.lists.proofs.Walks.{Witness, some-out}
-use Rattle.lists.proofs.Tallies.{tally-step, within-in, within-rise, level-within, rise-within}
-use Rattle.lists.proofs.Ranges.{occupied-single, occupied-pair, occupied-node, occupied-none, occupied-size, occupied-cong}
+use Rattle.lists.proofs.Tallies.{within-in, within-rise, level-within, rise-within}
+use Rattle.lists.proofs.Ranges.{occupied-single, occupied-node, occupied-none, occupied-size, occupied-cong}
 use Rattle.lists.proofs.Winner.{FirstIn, none-above}
 use Rattle.arbitration.specs.Keys.{keyAbove, HighestKey, RanksOf}
 use Rattle.arbitration.specs.declared.search.Looked.{Looked}
@@ -103,9 +100,6 @@ module _ {ks ms : List ℕ} {lo len looked : ℕ} (p : Lookable ks ms lo len loo
         highest = at-most-one ks lo len (omega arith);
         counted = rw (e, occupied-single (ranked ks) lo held);
       }
-
-  pub pair-asked : len ≡ 2 → Lookable ks ms lo 2 looked
-  pair-asked e = rw e at p
 
 -- ---- two halves
 
@@ -204,45 +198,6 @@ module _ {ks ms : List ℕ} {lo len looked a : ℕ} (p : Halved ks ms lo len loo
 
     pub both-left : getD ks y 0 ≤ getD ks x 0 → LookedInto ks lo len x looked after
     both-left u = record { highest = halves (f .highest) (g .highest) .left u; counted = both-counted }
-
--- ---- two keys
-
-module _ {ks ms : List ℕ} {lo looked : ℕ} (p : Lookable ks ms lo 2 looked) where
-  -- the marks rise by at most one at each key
-  pub pair-order :
-      (getD ms lo 0 ≤ getD ms (lo + 1) 0) × (getD ms (lo + 1) 0 ≤ getD ms (lo + 2) 0) × (getD ms (lo + 2) 0 ≤ getD ms lo 0 + 2)
-  pair-order =
-      let end : tally (suc (suc lo)) (ranked ks) ≡ tally (lo + 2) (ranked ks) = ap (λ (i : ℕ). tally i (ranked ks)) (omega arith) in
-      let mark : (i : ℕ) → i ≤ lo + 2 → getD ms i 0 ≡ tally i (ranked ks) = p .marked .before in
-      rw (mark lo (omega arith), mark (lo + 1) (omega arith), mark (lo + 2) (omega arith), add-one lo)
-      (omega (arith, tally-step (ranked ks) lo, tally-step (ranked ks) (suc lo)))
-
-  -- the pair itself and each candidate of it, told by the marks before it and behind it
-  pair-counted : {after : ℕ} → after ≡ looked + (getD ms (lo + 2) 0 - getD ms lo 0 + 1) → after ≡ looked + occupied (ranked ks) lo 2
-  pair-counted e =
-      omega (
-        arith,
-        occupied-pair (ranked ks) lo (p .held),
-        within-rise (ranked ks) lo 2 (p .held),
-        p .marked .before lo (omega arith),
-        p .marked .before (lo + 2) (omega arith),
-      )
-
-  pair-beside : Beside ks lo 2 lo (lo + 1)
-  pair-beside =
-      beside ks lo 1 1 2 lo (lo + 1) (omega arith) (omega arith) (omega arith) (at-most-one ks lo 1 (omega arith))
-      (at-most-one ks (lo + 1) 1 (omega arith))
-
-  module _ {after : ℕ} (e : after ≡ looked + (getD ms (lo + 2) 0 - getD ms lo 0 + 1)) where
-    pub pair-right : getD ks lo 0 < getD ks (lo + 1) 0 → LookedInto ks lo 2 (lo + 1) looked after
-    pair-right u = record { highest = pair-beside .right u; counted = pair-counted e }
-
-    pub pair-left : getD ks (lo + 1) 0 ≤ getD ks lo 0 → LookedInto ks lo 2 lo looked after
-    pair-left u = record { highest = pair-beside .left u; counted = pair-counted e }
-
-pub pair-answers :
-    {ks : List ℕ} {lo len r before after : ℕ} → len ≡ 2 → LookedInto ks lo 2 r before after → LookedInto ks lo len r before after
-pair-answers e found = rw e found
 
 -- ---- the whole search
 

@@ -23,7 +23,7 @@ use Rattle.lists.proofs.Winner.{WeakOrder, by-key, FirstIn, first-of, none-abov
 higher-order : (l : List Source) → WeakOrder (higher l)
 higher-order l = by-key (λ (i : ℕ). rank (getD l i noSource))
 
-highest-first : (l : List Source) (n : ℕ) → 1 ≤ n → FirstIn (higher l) 0 n (highest l n)
+pub highest-first : (l : List Source) (n : ℕ) → 1 ≤ n → FirstIn (higher l) 0 n (highest l n)
 unfolding highest
 highest-first l n h = tree-first (higher l) (higher-order l) n 0 n h (omega arith)
 

@@ -1,5 +1,5 @@
 -- Arbitration over rows of numbers. Helpers of contracts; nothing here needs to be believed.
---   keyAbove ks i j, keyBelow ks i j    the key at i is strictly above, below the key at j
+--   keyAbove ks i j                     the key at i is strictly above the key at j
 --   HighestKey ks lo len r              r is what the comparator tree answers, whatever bound its depth is given
 --   RanksOf l n ks                      ks holds the rank of each of the first n sources
 use Prim.Native.Nat.{ℕ, _≤_}
@@ -16,9 +16,6 @@ use Rattle.model.specs.Arbitration.{rank}
 
 abbrev pub keyAbove : List ℕ → ℕ → ℕ → Bool
 keyAbove ks i j = ltb (getD ks j 0) (getD ks i 0)
-
-abbrev pub keyBelow : List ℕ → ℕ → ℕ → Bool
-keyBelow ks i j = ltb (getD ks i 0) (getD ks j 0)
 
 abbrev pub HighestKey : List ℕ → ℕ → ℕ → ℕ → Type 0
 HighestKey ks lo len r = (d : ℕ) → len ≤ d → r ≡ tree (keyAbove ks) d lo len

@@ -1,3 +1,4 @@
 -- Helpers of this crate's contracts. Nothing here needs to be believed.
 pub mod Keys
 pub mod Marks
+pub mod Places

@@ -2,10 +2,9 @@
 -- here needs to be believed.
 --   ranked ks i                 the key at i is a candidate's: 0 is no candidate's
 --   MarksOf ks n ms             ms holds for each index up to n how many candidates' keys stand before it
---   Movable, Moved              the marks behind the index at, up to n, can be changed from one candidate's count to another's, and are
 --   Lookable, LookedInto        what the search of a range that has a candidate asks and gives; looked, before and after are counts
 --   Searched ks n r             what the whole search answers
-use Prim.Native.Nat.{ℕ, _+_, _^_, _<_, _≤_}
+use Prim.Native.Nat.{ℕ, _+_, _^_, _≤_}
 use mathlib.Core.Path.{_≡_}
 use mathlib.Core.List.{List}
 use mathlib.Core.Bool.{Bool, true}
@@ -28,19 +27,6 @@ marksLength = maxSources + 1
 pub record MarksOf (ks : List ℕ) (n : ℕ) (ms : List ℕ) : Type 0 where
   pub whole : length ms ≡ marksLength
   pub before : (i : ℕ) → i ≤ n → getD ms i 0 ≡ tally i (ranked ks)
-
-pub record Movable (at n was is : ℕ) (ms : List ℕ) : Type 0 where
-  pub inside : at < n
-  pub n-le : n ≤ maxSources
-  pub whole : length ms ≡ marksLength
-  pub few : is ≤ 1
-  pub room : (i : ℕ) → at < i → i ≤ n → (was ≤ getD ms i 0 + is) × (getD ms i 0 ≤ maxSources)
-
-pub record Moved (at n was is : ℕ) (ms ms′ : List ℕ) : Type 0 where
-  pub whole : length ms′ ≡ marksLength
-  pub before : (i : ℕ) → i ≤ at → getD ms′ i 0 ≡ getD ms i 0
-  pub behind : (i : ℕ) → at < i → i ≤ n → getD ms′ i 0 + was ≡ getD ms i 0 + is
-  pub past : (i : ℕ) → n < i → getD ms′ i 0 ≡ getD ms i 0
 
 -- ---- the search
 

@@ -11,19 +11,8 @@ pub struct Looked {
     pub ranges: u16,
 }
 
-// The index of the first highest of the two keys from lo, of which one is a candidate's. A pair is one range, and each candidate of it
-// another: looked rises by that many.
-fn pair(keys: &[u32; SOURCES], marks: &[u16; MARKS], lo: usize, looked: &mut u16) -> usize
-    requires { ⌜ Lookable (now keys) (now marks) lo 2 (now looked) ⌝ }
-    ensures { λ r. ⌜ LookedInto (now (keys .entry)) lo 2 r (now (looked .entry)) (now (looked .exit)) ⌝ }
-{
-    *looked += marks[lo + 2] - marks[lo] + 1;
-    if keys[lo] < keys[lo + 1] { lo + 1 } else { lo }
-}
-
 // The index of the first highest of the len keys from lo, of which one is a candidate's; looked rises by the ranges of their tree that
-// hold a candidate. The range is halved until one key or one pair is left, a half without a candidate is skipped, and the left side
-// keeps a tie.
+// hold a candidate. The range is halved until one key is left, a half without a candidate is skipped, and the left side keeps a tie.
 fn look(
     keys: &[u32; SOURCES],
     marks: &[u16; MARKS],
@@ -34,9 +23,6 @@ fn look(
     requires { ⌜ Lookable (now keys) (now marks) lo len (now looked) ⌝ }
     ensures { λ r. ⌜ LookedInto (now (keys .entry)) lo len r (now (looked .entry)) (now (looked .exit)) ⌝ }
 {
-    if len == 2 {
-        return pair(keys, marks, lo, looked);
-    }
     *looked += 1;
     if len == 1 {
         return lo;

@@ -38,15 +38,15 @@ pub zeros-are : replicate maxSources 0 ≡ zeros
 unfolding zeros
 zeros-are = refl
 
-pub zeros-filling : (l : List Source) → Filling rank noSource l maxSources 0 zeros
+pub zeros-filling : (l : List Source) → Filling (λ i. rank) noSource l maxSources 0 zeros
 unfolding zeros
-zeros-filling l = filling-none rank noSource l maxSources
+zeros-filling l = filling-none (λ i. rank) noSource l maxSources
 
 pub record Copied (l : List Source) : Type 0 where
   pub i : ℕ
   pub keys : List ℕ
   pub within : i ≤ readOf (length l)
-  pub filling : Filling rank noSource l maxSources i keys
+  pub filling : Filling (λ i. rank) noSource l maxSources i keys
 
 module _ (l : List Source) where
   abbrev left : Copied l → ℕ
@@ -76,7 +76,7 @@ module _ (l : List Source) where
           i = f .i + 1;
           keys = set (f .keys) (f .i) k;
           within = omega arith;
-          filling = filling-more rank noSource l (f .filling) (omega (arith, read-inside (length l) .1)) k e;
+          filling = filling-more (λ i. rank) noSource l (f .filling) (omega (arith, read-inside (length l) .1)) k e;
         }
 
     pub nearer : Further one-more f

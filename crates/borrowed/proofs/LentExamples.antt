@@ -2,10 +2,10 @@
 use mathlib.Core.Path.{refl}
 use lib.Count.{leadingZeros}
 use Rattle.model.specs.Priorities.{floorLog2, priorityWidth, topPriority}
-use Rattle.lists.specs.Walks.{tree}
-use Rattle.model.specs.Arbitration.{highest, highestId}
-use Rattle.borrowed.specs.Lent.{foundIn, claimable, takenFrom}
-use Rattle.borrowed.specs.LentCases.{lentCores, lentLists, LentCoresAnswered, LentListsAnswered}
+use Rattle.lists.specs.Walks.{tree, occupied}
+use Rattle.model.specs.Arbitration.{highest, highestId, rangesWith}
+use Rattle.borrowed.specs.Lent.{foundIn, rangesIn, claimable, takenFrom}
+use Rattle.borrowed.specs.LentCases.{lentCores, lentLists, countedLists, LentCoresAnswered, LentListsAnswered, CountedListsAnswered}
 
 pub lent-cores-answered : LentCoresAnswered
 unfolding leadingZeros floorLog2 priorityWidth topPriority claimable takenFrom lentCores
@@ -14,3 +14,7 @@ lent-cores-answered = refl
 pub lent-lists-answered : LentListsAnswered
 unfolding tree highest highestId foundIn lentLists
 lent-lists-answered = refl
+
+pub counted-lists-answered : CountedListsAnswered
+unfolding occupied rangesWith rangesIn countedLists
+counted-lists-answered = refl

@@ -1,26 +1,31 @@
 -- The search over a list, from the ranks of its records. Assumes nothing.
-use Prim.Native.Nat.{ℕ, suc, _+_, _<_, _≤_}
-use mathlib.Core.Path.{_≡_, refl, sym, ap, ap₂, _∙_}
-use mathlib.Core.List.{List, [], _∷_}
-use mathlib.Core.Bool.{Bool, true, false, cond}
+use Prim.Native.Nat.{ℕ, zero, suc, _+_, _<_, _≤_}
+use mathlib.Core.Path.{_≡_, sym, ap, ap₂, _∙_}
+use mathlib.Core.Logic.{_≢_}
+use mathlib.Core.List.{List, []}
+use mathlib.Core.Bool.{false, cond}
 use native.Mathlib.Omega.{arith}
 use native.Mathlib.Decide.{decLe}
-use native.Mathlib.Numerals.{add-one}
-use lib.ListN.{length, getD}
-use borrow.Author.Tests.{le-leb, lt-leb}
+use lib.ListN.{length, getD, List·getD-eq-default}
+use lib.Dec.{ltb}
+use borrow.Author.Tests.{lt-ltb, le-ltb, le-leb, lt-leb}
+use Rattle.lists.specs.Walks.{tree, occupied}
+use Rattle.lists.proofs.Bools.{clash, refuted, Flag, on, off, flag}
 use Rattle.model.specs.declared.Source.{Source}
-use Rattle.model.specs.Records.{maxSources, noSource, found}
-use Rattle.lists.specs.Walks.{tree}
+use Rattle.model.specs.Records.{maxSources, noSource, found, ranged}
 use Rattle.model.specs.Requests.{candidate}
-use Rattle.model.specs.Arbitration.{rank, highest, highestId}
+use Rattle.model.specs.Arbitration.{highest, highestId, candidateAt, rangesWith}
 use Rattle.model.specs.Commands.{badSize}
-use Rattle.borrowed.specs.Lent.{foundIn, foundByWalk, FoundIsWalk}
+use Rattle.borrowed.specs.Lent.{foundIn, foundByWalk, rangesIn, FoundIsWalk}
+use Rattle.arbitration.specs.declared.search.Looked.{Looked}
 use Rattle.arbitration.specs.Keys.{HighestKey, RanksOf}
-use Rattle.arbitration.proofs.Tree.{tree-is-walk}
+use Rattle.arbitration.specs.Marks.{Searched}
+use Rattle.arbitration.proofs.Tree.{tree-is-walk, highest-ge}
+use Rattle.arbitration.proofs.Ranges.{none-looked-into}
 use Rattle.arbitration.proofs.Keys.{highest-inside}
-use Rattle.arbitration.proofs.ByKeys.{highest-by-keys}
+use Rattle.arbitration.proofs.Looks.{searched-by-keys}
 use Rattle.borrowed.specs.declared.Extent.{Extent}
-use Rattle.borrowed.specs.Keys.{extent, extentOf, PositionByKeys, FoundByKeys}
+use Rattle.borrowed.specs.Keys.{extent, extentOf, positionOf, sought, SoughtIn, SoughtByKeys}
 
 -- ---- what the length says
 
@@ -34,44 +39,63 @@ extent-none len h = rw (lt-leb len maxSources h)
 
 -- ---- the position
 
-unranked : (r : Source) → rank r ≡ 0 → candidate r ≡ false
-unranked r e = go (candidate r) e
+-- the highest candidate's place lies in the row, also for an empty one
+pub found-inside : {ks : List ℕ} {n : ℕ} → n ≤ maxSources → (r : Looked) → Searched ks n r → r .at < maxSources
+unfolding tree
+found-inside {ks} {n} h r looked = go n h (looked .highest)
   where
-    go : (t : Bool) → cond t (suc (r .priority)) 0 ≡ 0 → t ≡ false
-    go true q = absurd (omega arith)
-    go false q = refl
+    go : (k : ℕ) → k ≤ maxSources → HighestKey ks 0 k (r .at) → r .at < maxSources
+    go zero g e = omega (arith, e 0 (omega arith))
+    go (suc k) g e = omega (arith, highest-inside ks 0 (suc k) (r .at) (omega arith) e)
 
-ranked : (r : Source) → (rank r ≡ 0 → ⊥) → candidate r ≡ true
-ranked r e = go (candidate r) e
-  where
-    go : (t : Bool) → (cond t (suc (r .priority)) 0 ≡ 0 → ⊥) → t ≡ true
-    go true q = refl
-    go false q = absurd (q refl)
+module _ (r : Looked) where
+  pub position-none : r .ranges ≡ 0 → 0 ≡ positionOf r
+  unfolding positionOf
+  position-none e = rw e
 
-pub empty-list : (ks : List ℕ) (n : ℕ) → n ≡ 0 → PositionByKeys ks n 0
-unfolding tree highest highestId
-empty-list ks n e [] h same = refl
-empty-list ks n e (r ∷ l) h same = absurd (omega arith)
+  pub position-some : r .ranges ≢ 0 → r .at + 1 ≡ positionOf r
+  unfolding positionOf
+  position-some h = rw (lt-ltb 0 (r .ranges) (omega arith))
 
-module _ (ks : List ℕ) (n at : ℕ) (some : 1 ≤ n) (e : HighestKey ks 0 n at) where
-  pub inside : at < n
-  inside = omega (arith, highest-inside ks 0 n at some e)
+module _ (l : List Source) where
+  abbrev n : ℕ
+  n = length l
 
-  module _ (l : List Source) (same : RanksOf l n ks) where
-    is-highest : at ≡ highest l n
-    is-highest = highest-by-keys l n ks same at e
+  abbrev best : Source
+  best = getD l (highest l n) noSource
 
-    its-rank : getD ks at 0 ≡ rank (getD l (highest l n) noSource)
-    its-rank = same at inside ∙ ap (λ (i : ℕ). rank (getD l i noSource)) is-highest
+  -- no range is looked into, so the highest isn't a candidate
+  none-best : rangesWith l n ≡ 0 → candidate best ≡ false
+  none-best e = go (decLe n (highest l n))
+    where
+      go : Dec (n ≤ highest l n) → candidate best ≡ false
+      go (yes h) = rw (List·getD-eq-default l noSource h)
+      go (no h) = none-looked-into l n .0 e (highest l n) (omega arith)
 
-  pub no-candidate : getD ks at 0 ≡ 0 → PositionByKeys ks n 0
-  unfolding highestId
-  no-candidate z l h same = rw (unranked (getD l (highest l n) noSource) (sym (its-rank l same) ∙ z))
+  -- the highest isn't a candidate, so none is, and no range is looked into
+  best-none : candidate best ≡ false → rangesWith l n ≡ 0
+  best-none e = none-looked-into l n .1 (λ i h. refuted (candidateAt l i) (λ p. clash (highest-ge l n i h p .0) e))
 
-  pub a-candidate : (getD ks at 0 ≡ 0 → ⊥) → PositionByKeys ks n (at + 1)
-  unfolding highestId
-  a-candidate z l h same =
-      rw (ranked (getD l (highest l n) noSource) (λ q. z (its-rank l same ∙ q))) (add-one at ∙ ap suc (is-highest l same))
+  position-is : (r : Looked) → r .at ≡ highest l n → r .ranges ≡ rangesWith l n → positionOf r ≡ highestId l n
+  unfolding positionOf highestId
+  position-is r at ranges = go (flag (candidate best))
+    where
+      go : Flag (candidate best) → cond (ltb 0 (r .ranges)) (r .at + 1) 0 ≡ cond (candidate best) (suc (highest l n)) 0
+      go (on p) =
+          let some : 0 < r .ranges = omega (arith, some-range) in
+          rw (lt-ltb 0 (r .ranges) some, p) (omega arith)
+        where
+          some-range : rangesWith l n ≢ 0
+          some-range e = clash p (none-best e)
+      go (off p) = let none : r .ranges ≡ 0 = ranges ∙ best-none p in rw (le-ltb 0 (r .ranges) (omega arith), p)
+
+-- the keys of a list's ranks: where its highest candidate stands, and the ranges with a candidate
+sought-by-keys :
+    (ks : List ℕ) (r : Looked) (l : List Source) (k : ℕ) → k ≡ length l → Searched ks k r → RanksOf l k ks →
+    (positionOf r ≡ highestId l (length l)) × (r .ranges ≡ rangesWith l (length l))
+sought-by-keys ks r l k e looked same =
+    let is = searched-by-keys l (length l) ks (rw e at same) r (rw e at looked) in
+    (position-is l r (is .0) (is .1), is .1)
 
 -- ---- the answer
 
@@ -83,23 +107,35 @@ found-none : (l : List Source) → maxSources < length l → found badSize 0 ≡
 unfolding foundIn
 found-none l h = rw (lt-leb (length l) maxSources h)
 
--- none are read, so the position is that of an empty list
-none-read : (ks : List ℕ) (n at : ℕ) → n ≡ 0 → PositionByKeys ks n at → at ≡ 0
-unfolding tree highest highestId
-none-read ks n at e p = p [] (sym e) (λ i h. absurd (omega arith)) ∙ ap (highestId []) e
+pub ranged-whole : (l : List Source) → length l ≤ maxSources → ranged 0 (rangesWith l (length l)) ≡ rangesIn l
+unfolding rangesIn
+ranged-whole l h = rw (le-leb (length l) maxSources h)
 
-pub searched : (ks : List ℕ) (e : Extent) (at : ℕ) → PositionByKeys ks (e .read) at → FoundByKeys ks e (found (e .number) at)
-searched ks e at p l is same = go (decLe (length l) maxSources)
+pub ranged-none : (l : List Source) → maxSources < length l → ranged badSize 0 ≡ rangesIn l
+unfolding rangesIn
+ranged-none l h = rw (lt-leb (length l) maxSources h)
+
+-- none are read, so what is found is that of an empty list
+none-read : (ks : List ℕ) (r : Looked) (k : ℕ) → k ≡ 0 → Searched ks k r → (positionOf r ≡ 0) × (r .ranges ≡ 0)
+unfolding tree occupied highest highestId rangesWith
+none-read ks r k e looked = sought-by-keys ks r [] k e looked (λ i h. absurd (omega arith))
+
+pub searched :
+    (ks : List ℕ) (e : Extent) (r : Looked) (p : ℕ) → Searched ks (e .read) r → p ≡ positionOf r →
+    SoughtByKeys ks e (sought (e .number) p (r .ranges))
+searched ks e r p looked at l is same = go (decLe (length l) maxSources)
   where
-    go : Dec (length l ≤ maxSources) → found (e .number) at ≡ foundIn l
+    go : Dec (length l ≤ maxSources) → SoughtIn l (sought (e .number) p (r .ranges))
     go (yes h) =
         let q : e ≡ extent 0 (length l) = is ∙ sym (extent-whole (length l) h) in
-        let n : e .read ≡ length l = ap (λ (x : Extent). x .read) q in
-        ap₂ found (ap (λ (x : Extent). x .number) q) (p l (sym n) same ∙ ap (highestId l) n) ∙ found-whole l h
+        let number : e .number ≡ 0 = ap (λ (x : Extent). x .number) q in
+        let here = sought-by-keys ks r l (e .read) (ap (λ (x : Extent). x .read) q) looked same in
+        (ap₂ found number (at ∙ here .0) ∙ found-whole l h, ap₂ ranged number (here .1) ∙ ranged-whole l h)
     go (no h) =
         let q : e ≡ extent badSize 0 = is ∙ sym (extent-none (length l) (omega arith)) in
-        ap₂ found (ap (λ (x : Extent). x .number) q) (none-read ks (e .read) at (ap (λ (x : Extent). x .read) q) p) ∙
-        found-none l (omega arith)
+        let number : e .number ≡ badSize = ap (λ (x : Extent). x .number) q in
+        let here = none-read ks r (e .read) (ap (λ (x : Extent). x .read) q) looked in
+        (ap₂ found number (at ∙ here .0) ∙ found-none l (omega arith), ap₂ ranged number (here .1) ∙ ranged-none l (omega arith))
 
 -- ---- the plain walk
 

@@ -1,9 +1,10 @@
--- Worked cases of the two calls on records that the host lends. Definitions only. Assumes nothing.
--- Source: document 01, "Two further faces", and the rows 1, 2 and 7 of "Numbers for no".
+-- Worked cases of the calls on records that the host lends. Definitions only. Assumes nothing.
+-- Source: document 01, "Two further faces", and the rows 1, 2 and 7 of "Numbers for no"; the ranges are document 02's, 3/14.
 -- A case is what is lent beside what the call answers; a claim's answer holds the record after it, every field.
 --   lentCores       a bad filled record for each condition that can be broken alone, beside a good neighbour; empty boxes; whole effects.
 --                   A box priority of 0 is never broken alone: it is not above any configured one.
---   lentLists       lists of 0 to 129 records
+--   lentLists       lists of 0 to 129 records, and where the highest candidate stands
+--   countedLists    such lists, and the ranges that are looked into
 use Prim.Native.Nat.{ℕ}
 use mathlib.Core.Path.{_≡_}
 use mathlib.Core.List.{List, [], _∷_, _++_, map}
@@ -12,9 +13,11 @@ use lib.ListN.{replicate}
 use Rattle.model.specs.declared.Source.{Source}
 use Rattle.model.specs.declared.Core.{Core}
 use Rattle.model.specs.declared.Found.{Found}
+use Rattle.model.specs.declared.Ranged.{Ranged}
 use Rattle.model.specs.declared.Taken.{Taken}
-use Rattle.model.specs.Records.{sourceId, sourceWith, boxWith, coreWith, found, taken}
-use Rattle.borrowed.specs.Lent.{foundIn, takenFrom}
+use Rattle.model.specs.Records.{sourceId, sourceWith, boxWith, coreWith, found, ranged, taken}
+use Rattle.model.specs.SearchStatements.{twoOfFive}
+use Rattle.borrowed.specs.Lent.{foundIn, rangesIn, takenFrom}
 
 -- ---- a lent core record
 
@@ -116,6 +119,40 @@ lentLists =
     tooLong (replicate 129 (idleAt 0)) ∷
     []
 
+-- ---- the ranges of a lent list
+
+abbrev counts : List Source → ℕ → List Source × Ranged
+counts l ranges = (l, ranged 0 ranges)
+
+abbrev notCounted : List Source → List Source × Ranged
+notCounted l = (l, ranged 2 0)
+
+unfoldable pub countedLists : List (List Source × Ranged)
+countedLists =
+    -- none, and no candidate
+    counts [] 0 ∷
+    counts (idleAt 9 ∷ []) 0 ∷
+    counts (maskedAt 9 ∷ deliveredAt 9 ∷ idleAt 9 ∷ []) 0 ∷
+    -- one candidate, whatever its priority: the ranges on its path, the single record last
+    counts (candidateAt 0 ∷ []) 1 ∷
+    counts (idleAt 9 ∷ candidateAt 0 ∷ []) 2 ∷
+    -- of three records the left half has two
+    counts (candidateAt 7 ∷ idleAt 9 ∷ idleAt 9 ∷ []) 3 ∷
+    counts (maskedAt 9 ∷ candidateAt 0 ∷ idleAt 9 ∷ []) 3 ∷
+    counts (idleAt 9 ∷ idleAt 9 ∷ candidateAt 7 ∷ []) 2 ∷
+    -- two of five, one of them of priority 0, as in `RangesOfFive`
+    counts twoOfFive 6 ∷
+    -- all are candidates: every range, 2n - 1
+    counts (candidateAt 5 ∷ candidateAt 5 ∷ []) 3 ∷
+    counts (candidateAt 0 ∷ candidateAt 0 ∷ candidateAt 0 ∷ []) 5 ∷
+    counts (replicate 5 (candidateAt 3)) 9 ∷
+    -- 128 records: the path of the last one, and every range; 129 are refused
+    counts (replicate 127 (idleAt 0) ++ candidateAt 4 ∷ []) 8 ∷
+    counts (replicate 128 (candidateAt 3)) 255 ∷
+    notCounted (candidateAt 4 ∷ replicate 128 (candidateAt 3)) ∷
+    notCounted (replicate 129 (idleAt 0)) ∷
+    []
+
 -- ---- statements
 
 abbrev pub LentCoresAnswered : Type 0
@@ -123,3 +160,7 @@ LentCoresAnswered = map (λ (c : Core × Taken). takenFrom (c .0)) lentCores ≡
 
 abbrev pub LentListsAnswered : Type 0
 LentListsAnswered = map (λ (c : List Source × Found). foundIn (c .0)) lentLists ≡ map (λ (c : List Source × Found). c .1) lentLists
+
+abbrev pub CountedListsAnswered : Type 0
+CountedListsAnswered =
+    map (λ (c : List Source × Ranged). rangesIn (c .0)) countedLists ≡ map (λ (c : List Source × Ranged). c .1) countedLists

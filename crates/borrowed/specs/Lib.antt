@@ -1,4 +1,4 @@
--- The two calls on records that the host lends.
+-- The calls on records that the host lends.
 --   Lent         what they answer: definitions that a reader must believe
 --   LentCases    worked cases of them
 --   Keys         helpers of contracts; nothing there needs to be believed

@@ -1,15 +1,18 @@
-// The two calls on records that the host lends. Document 01, "Two further faces".
-ghost use Prim.Native.Nat.{_≤_};
+// The calls on records that the host lends. Document 01, "Two further faces", and document 02, 3/14.
+ghost use Prim.Native.Nat.{_<_, _≤_};
 ghost use mathlib.Core.Path.{_≡_};
 ghost use Rattle.model.specs.Records.{maxSources, taken, claimedAs};
-ghost use Rattle.borrowed.specs.Lent.{claimable as claimableCore, takenFrom, foundIn};
-ghost use Rattle.borrowed.specs.Keys.{extentOf, PositionByKeys, FoundByKeys};
+ghost use Rattle.borrowed.specs.Lent.{claimable as claimableCore, takenFrom, foundIn, rangesIn};
+ghost use Rattle.borrowed.specs.Keys.{extentOf, positionOf, SoughtIn, SoughtByKeys};
+use arbitration::marks;
+use arbitration::search;
 use checks::numbers::BAD_SIZE;
 use checks::numbers::MALFORMED;
 use checks::numbers::NOTHING_TO_CLAIM;
 use model::Claimed;
 use model::Core;
 use model::Found;
+use model::Ranged;
 use model::SOURCES;
 use model::Source;
 use model::SourceId;
@@ -92,38 +95,46 @@ fn extent_of(len: usize) -> Extent
     }
 }
 
-// The position plus one of the first highest of n keys, 0 if it is 0: rank 0 is no candidate.
-fn position(keys: &[u32; SOURCES], n: usize) -> u16
-    requires { ⌜ n ≤ maxSources ⌝ }
-    ensures { λ r. ⌜ PositionByKeys (now (keys .entry)) n r ⌝ }
-{
-    if n == 0 {
-        return 0;
-    }
-    let at = arbitration::highest(keys, 0, n);
-    if keys[at] == 0 {
-        return 0;
-    }
-    at as u16 + 1
+// What the search over a lent list comes to: the number, the position plus one of the first highest candidate, and the ranges looked
+// into. Each call answers its part of it.
+struct Sought {
+    number: u8,
+    position: u16,
+    ranges: u16,
 }
 
-// The answer for a list of that extent, from the ranks of what is read.
-fn search(keys: &[u32; SOURCES], e: Extent) -> Found
-    requires { ⌜ e .read ≤ maxSources ⌝ }
-    ensures { λ r. ⌜ FoundByKeys (now (keys .entry)) e r ⌝ }
+// The position plus one of what was found, 0 if no range was looked into: then there is no candidate.
+fn position(looked: search::Looked) -> u16
+    requires { ⌜ looked .at < maxSources ⌝ }
+    ensures { λ r. ⌜ r ≡ positionOf looked ⌝ }
 {
-    let at = position(keys, e.read);
-    Found {
+    if looked.ranges == 0 {
+        return 0;
+    }
+    looked.at as u16 + 1
+}
+
+// What a list of that extent comes to, from the ranks of what is read: the marks are made, and the comparator tree runs over them.
+fn search_keys(keys: &[u32; SOURCES], e: Extent) -> Sought
+    requires { ⌜ e .read ≤ maxSources ⌝ }
+    ensures { λ r. ⌜ SoughtByKeys (now (keys .entry)) e r ⌝ }
+{
+    let n = e.read;
+    let mut marks = [0; marks::MARKS];
+    marks::marks_of(keys, n, &mut marks);
+    let looked = search::find(keys, &marks, n);
+    let at = position(looked);
+    Sought {
         number: e.number,
         position: at,
+        ranges: looked.ranges,
     }
 }
 
-// The search over a list that the host lends: the ranks are copied out, and the comparator tree runs over them. Whatever the records
-// hold: the list's order decides a tie.
-#[no_mangle]
-pub extern "C" fn psic_highest_in(list: &[Source]) -> Found
-    ensures { λ r. ⌜ r ≡ foundIn (now (list .entry)) ⌝ }
+// The search over a list that the host lends: the ranks are copied out, and searched. Whatever the records hold: the list's order
+// decides a tie.
+fn seek(list: &[Source]) -> Sought
+    ensures { λ r. ⌜ SoughtIn (now (list .entry)) r ⌝ }
 {
     let len = list.len();
     let e = extent_of(len);
@@ -133,5 +144,29 @@ pub extern "C" fn psic_highest_in(list: &[Source]) -> Found
         keys[i] = records::rank(list[i]);
         i += 1;
     }
-    search(&keys, e)
+    search_keys(&keys, e)
+}
+
+// Where the first highest candidate of a lent list stands.
+#[no_mangle]
+pub extern "C" fn psic_highest_in(list: &[Source]) -> Found
+    ensures { λ r. ⌜ r ≡ foundIn (now (list .entry)) ⌝ }
+{
+    let s = seek(list);
+    Found {
+        number: s.number,
+        position: s.position,
+    }
+}
+
+// How many ranges of the comparator tree over a lent list that search looks into. Document 02, 3/14.
+#[no_mangle]
+pub extern "C" fn psic_ranges_in(list: &[Source]) -> Ranged
+    ensures { λ r. ⌜ r ≡ rangesIn (now (list .entry)) ⌝ }
+{
+    let s = seek(list);
+    Ranged {
+        number: s.number,
+        ranges: s.ranges,
+    }
 }

@@ -2,16 +2,11 @@
 // changed.
 pub mod numbers;
 
-ghost use Prim.Native.Nat.{_≤_};
 ghost use mathlib.Core.Path.{_≡_};
-ghost use mathlib.Core.Bool.{Bool, not, _&&_};
-ghost use lib.Dec.{ltb, leb};
+ghost use lib.Dec.{ltb};
 ghost use Rattle.lists.specs.Numbers.{between};
-ghost use Rattle.model.specs.Records.{maxCores};
 ghost use Rattle.model.specs.Priorities.{topPriority};
-ghost use Rattle.model.specs.Requests.{boxed as boxedIn};
 ghost use Rattle.checks.specs.Refusals.{sourceRefusalBy, coreRefusalBy};
-use model::CORES;
 use model::Core;
 use model::CoreAction;
 use model::CoreId;
@@ -45,37 +40,6 @@ pub fn names_core(m: u16, core: CoreId) -> bool
     ensures { λ r. ⌜ r ≡ ltb (core .0) m ⌝ }
 {
     core.0 < m
-}
-
-// Whether a filled box of the first m cores names the source.
-fn boxed(cores: [Core; CORES], m: usize, id: SourceId) -> bool
-    requires { ⌜ m ≤ maxCores ⌝ }
-    ensures { λ r. ⌜ r ≡ boxedIn cores m (id .0) ⌝ }
-{
-    let mut k = 0;
-    while k < m {
-        if cores[k].message.filled {
-            if cores[k].message.source.0 == id.0 {
-                return true;
-            }
-        }
-        k += 1;
-    }
-    false
-}
-
-// Whether the request of a source record is claimed: pending, delivered, and in no box.
-pub fn is_claimed(s: Source, cores: [Core; CORES], m: usize, id: SourceId) -> bool
-    requires { ⌜ m ≤ maxCores ⌝ }
-    ensures { λ r. ⌜ r ≡ s .pending && s .delivered && not (boxedIn cores m (id .0)) ⌝ }
-{
-    if !s.pending {
-        return false;
-    }
-    if !s.delivered {
-        return false;
-    }
-    !boxed(cores, m, id)
 }
 
 // Whether a source may have the priority: 1 to the top one of n sources.

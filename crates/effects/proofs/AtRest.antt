@@ -1,10 +1,9 @@
 -- What is left of an effect to settle. Assumes nothing.
 --   still           a consistent state with no box dirty and no candidate above a core is at rest
 --   unmoved         at rest settling answers the state as it is, with 0 cycles
---   delivered       the deliveries from an effect on, where nothing is to be retracted, are its settling
 --   claim-answer    a claim leaves nothing to settle: every core's current priority is the same before and after
 use Prim.Native.Nat.{ℕ, _*_, _<_}
-use mathlib.Core.Path.{_≡_, ap, _∙_}
+use mathlib.Core.Path.{_≡_, _∙_}
 use mathlib.Core.Bool.{true}
 use native.Mathlib.Omega.{arith}
 use borrow.Author.Tests.{lt-ltb}
@@ -15,13 +14,11 @@ use Rattle.model.specs.declared.CoreAction.the-variants.{Claim}
 use Rattle.model.specs.declared.Cycle.the-variants.{Rest}
 use Rattle.model.specs.Records.{coreAt, withCore, answer}
 use Rattle.model.specs.WellFormed.{WellFormed, Consistent, NoneAbove}
-use Rattle.model.specs.Settling.{next, settle}
+use Rattle.model.specs.Settling.{next}
 use Rattle.model.specs.Commands.{claimedCore, effect, refusalOf, refusal, answeredId, settled, execute}
 use Rattle.lists.proofs.Bools.{clash}
 use Rattle.well_formed.proofs.Test.{wellFormed-in}
 use Rattle.settling.specs.Phases.{Delivering}
-use Rattle.settling.specs.declared.Reached.{Reached}
-use Rattle.settling.specs.Runs.{AfterDeliveries}
 use Rattle.settling.proofs.Next.{Next, resting, retracting, arbitrating, next-cases}
 use Rattle.settling.proofs.Run.{settle-rest, cyclesOf-rest}
 use Rattle.effects.proofs.Accepted.{execute-accepted}
@@ -40,10 +37,6 @@ module _ (s : Controller) (rest : next s ≡ Rest) where
   pub unmoved : (id : ℕ) → settled s id ≡ answer s 0 id 0
   unfolding settled
   unmoved id = rw (settle-rest s rest (2 * s .m), cyclesOf-rest s rest (2 * s .m))
-
-pub delivered : (s : Controller) (id : ℕ) {r : Reached} → AfterDeliveries s 0 r → answer (r .state) 0 id (r .cycles) ≡ settled s id
-unfolding settled
-delivered s id {r} after = rw (after (2 * s .m) (omega arith)) (ap (answer (settle (2 * s .m) s) 0 id) (omega arith))
 
 module _ (s : Controller) (w : WellFormed s) (k : CoreId) (k-lt : k .0 < s .m) (filled : (coreAt s (k .0)) .message .filled ≡ true) where
   abbrev after : Controller

@@ -1,5 +1,4 @@
--- The bytes of a state and the room for answers. Assumes nothing.
---   state-size     bytes that encode a state have its length
+-- The room for answers. Assumes nothing.
 --   no-state, not-whole, no-room, fits    whether a run of a list fits its buffers
 use Prim.Native.Nat.{ℕ, _*_, _/_, _%_, _<_, _≤_}
 use mathlib.Core.Path.{_≡_}
@@ -10,11 +9,7 @@ use native.Mathlib.Omega.{arith}
 use lib.Dec.{eqb, leb}
 use borrow.Author.Tests.{eq-eqb, ne-eqb, le-leb, lt-leb, eqb-true, leb-true}
 use Rattle.lists.proofs.Bools.{and-l, and-r, and-in, Flag, on, off, flag}
-use Rattle.layout.specs.Bytes.{stateSize, isState, commandSize, answerSize, roomFor, fitsRun}
-
-pub state-size : (b : List ℕ) → isState b ≡ true → length b ≡ stateSize
-unfolding isState
-state-size b e = eqb-true (length b) stateSize (and-l _ _ (and-l _ _ e))
+use Rattle.layout.specs.Bytes.{isState, commandSize, answerSize, roomFor, fitsRun}
 
 -- ---- whether a run of a list fits its buffers
 

@@ -1,11 +1,11 @@
 -- What each call answers and writes, from what the functions that it calls hand back. Assumes nothing.
 --   make-unfit, make-refused, make-answered       `makeCall`
---   bad-bytes, bad-number, execute-answered       `executeCall`
+--   bad-bytes, bad-number, execute-went           `executeCall`
 --   run-fit, run-unfit, run-by, run-refused       `runCall`: a run, none, either; Running has a run command by command
-use Prim.Native.Nat.{ℕ}
+use Prim.Native.Nat.{ℕ, _+_, _*_}
 use mathlib.Core.Path.{_≡_, refl, sym, _∙_, ap, subst}
 use mathlib.Core.List.{List}
-use mathlib.Core.Bool.{true, false}
+use mathlib.Core.Bool.{Bool, true, false}
 use lib.ListN.{length}
 use lib.Seq.{sets}
 use borrow.Author.Tests.{eq-eqb, ne-eqb}
@@ -19,6 +19,9 @@ use Rattle.model.specs.Commands.{execute, make, run}
 use Rattle.layout.specs.Commands.{commandOf}
 use Rattle.layout.specs.Bytes.{stateSize, stateBytes, stateFrom, isState, commandsIn, unreadable, packed, Call, callOf, Does, makeCall, executedOn, executeCall, DoesRun, noCount, fitsRun, RunCall, runCallOf, runCall}
 use Rattle.layout.proofs.Answers.{answersFrom}
+use Rattle.in_place.specs.declared.Outcome.{Outcome}
+use Rattle.in_place.specs.Steps.{Says}
+use Rattle.steps.specs.Going.{Went}
 
 done : (r : ℕ) (b : List ℕ) (call : Call) → call ≡ callOf r b → Does r b call
 done r b call e = (sym (ap (λ (x : Call). x .result) e), sym (ap (λ (x : Call). x .bytes) e))
@@ -60,12 +63,15 @@ module _ (number at p : ℕ) (b : List ℕ) where
     pub bad-number : d ≡ Unknown → Does unreadable b (executeCall number at p b)
     bad-number f = done unreadable b (executeCall number at p b) (executed ∙ rw f)
 
-    pub execute-answered :
-        (r : ℕ) (b′ : List ℕ) (s : Controller) (c : Command) (a : Answer) → d ≡ Known c → s ≡ stateFrom b → a ≡ execute s c →
-        r ≡ packed a → b′ ≡ stateBytes (a .state) → Does r b′ (executeCall number at p b)
-    execute-answered r b′ s c a f es ea er e′ =
-        let same : a ≡ execute (stateFrom b) c = rw (ea, es) in
-        answered r b′ a (executeCall number at p b) (executed ∙ rw (f, ← same)) er e′
+    pub execute-went :
+        {r : ℕ} {c : Command} {sound : Bool} {o : Outcome} {b′ keys′ ranks′ : List ℕ} → d ≡ Known c →
+        Went (execute (stateFrom b) c) sound o b′ keys′ ranks′ → r ≡ o .number + 256 * (o .id .0 + 65536 * o .cycles) →
+        Does r b′ (executeCall number at p b)
+    execute-went {r} {c} {sound} {o} {b′} f w er =
+        let (number-is, id-is, cycles-are) : Says o ((execute (stateFrom b) c) .number) ((execute (stateFrom b) c) .id .0) ((execute (stateFrom b) c) .cycles)
+        = w .says in
+        answered r b′ (execute (stateFrom b) c) (executeCall number at p b) (executed ∙ rw f) (er ∙ rw (number-is, id-is, cycles-are))
+        (w .going .whole ∙ ap stateBytes (w .state-is))
 
 -- ---- a list of commands
 

@@ -2,12 +2,12 @@
 --   RunTo                     the commands before place i are taken: what is left of the list, run from the state reached, ends as the
 --                             whole list does from the start, and the answers of what is left, put behind those so far, give the
 --                             answers of the whole
---   run-none, run-more    no command is taken; one more command is taken
+--   run-none, run-more    no command is taken; one more command is taken (`run-went` from what a step leaves)
 --   run-all                 no command is left: what the run answers and writes
 use Prim.Native.Nat.{ℕ, _+_, _/_, _%_, _<_, _≤_}
-use mathlib.Core.Path.{_≡_, refl, sym, ap, _∙_}
-use mathlib.Core.List.{List, [], _∷_}
-use mathlib.Core.Bool.{true}
+use mathlib.Core.Path.{_≡_, refl, sym, ap, subst, _∙_}
+use mathlib.Core.List.{List, [], _∷_, _++_}
+use mathlib.Core.Bool.{Bool, true}
 use lib.ListN.{length, drop}
 use lib.Seq.{sets, length-sets}
 use native.Mathlib.Omega.{arith}
@@ -17,10 +17,13 @@ use Rattle.model.specs.declared.Command.{Command}
 use Rattle.model.specs.declared.Decoded.the-variants.{Known}
 use Rattle.model.specs.declared.Answer.{Answer}
 use Rattle.model.specs.Commands.{execute, run}
-use Rattle.layout.specs.Bytes.{stateFrom, stateBytes, isState, DoesRun, runCall, commandSize, commandsIn, answerBytes}
+use Rattle.layout.specs.Bytes.{word, stateFrom, stateBytes, isState, DoesRun, runCall, commandSize, commandsIn, answerBytes}
 use Rattle.lists.specs.Rows.{joined}
 use Rattle.exports.proofs.Commands.{commandAt, commands-there}
 use Rattle.layout.proofs.Answers.{answersFrom, answers-more}
+use Rattle.in_place.specs.declared.Outcome.{Outcome}
+use Rattle.in_place.specs.Steps.{Says}
+use Rattle.steps.specs.Going.{Went}
 use Rattle.exports.proofs.Buffers.{fits}
 
 -- the commands from place i on
@@ -78,6 +81,19 @@ module _ (list answers₀ : List ℕ) (s₀ : Controller) where
             answers-more answers answers′ s i c a rest ea e ∙ ap (λ (cs : List Command). sets answers i (answersFrom s cs)) (sym commands)
             ∙ t .written;
       }
+
+-- the same from what a step leaves
+pub run-went :
+    {list answers₀ answers answers′ : List ℕ} {s₀ : Controller} {i : ℕ} (b : List ℕ) (c : Command) {sound : Bool} {o : Outcome}
+    {b′ keys′ ranks′ : List ℕ} → RunTo list answers₀ s₀ answers (stateFrom b) i → i < length list → commandAt list i ≡ Known c →
+    Went (execute (stateFrom b) c) sound o b′ keys′ ranks′ →
+    answers′ ≡ sets answers i (o .number ∷ (word (o .id .0) ++ word (o .cycles))) →
+    RunTo list answers₀ s₀ answers′ (stateFrom b′) (i + commandSize)
+run-went {list} {answers₀} {answers} {answers′} {s₀} {i} b c t h ec w e =
+    let a : Answer = execute (stateFrom b) c in
+    let (number-is, id-is, cycles-are) : Says _ (a .number) (a .id .0) (a .cycles) = w .says in
+    subst (λ (s : Controller). RunTo list answers₀ s₀ answers′ s (i + commandSize)) (sym (w .state-is))
+    (run-more list answers₀ s₀ answers answers′ (stateFrom b) i c a t h ec refl (e ∙ rw (number-is, id-is, cycles-are)))
 
 pub run-all :
     (b list answers₀ : List ℕ) (s₀ : Controller) (answers b′ : List ℕ) (s : Controller) (i : ℕ) →

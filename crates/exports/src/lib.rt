@@ -6,7 +6,9 @@ ghost use mathlib.Core.Path.{_≡_};
 ghost use Rattle.layout.specs.Bytes.{Does, makeCall, executeCall, DoesRun, runCall};
 use layout::COMMAND_SIZE;
 use layout::STATE_SIZE;
+use model::CORES;
 use model::Decoded;
+use model::SOURCES;
 use model::SourceId;
 
 const UNREADABLE: u64 = 255;
@@ -49,17 +51,17 @@ pub extern "C" fn psic_execute(state: &mut [u8], number: u16, at: u16, priority:
     match decoding::command(number, at, priority) {
         Decoded::Unknown => UNREADABLE,
         Decoded::Known(c) => {
-            let given = decoding::state_from(state);
-            let a = commands::execute(given, c);
-            let next = a.state;
-            encoding::put_state(state, next);
-            packed(a.number, a.id, a.cycles)
+            let mut keys = [0; CORES];
+            let mut ranks = [0; SOURCES];
+            let sound = steps::begin(state, &mut keys, &mut ranks);
+            let o = steps::step(state, &mut keys, &mut ranks, sound, c);
+            packed(o.number, o.id, o.cycles)
         }
     }
 }
 
 // A list of commands, 5 bytes each, from the state that the bytes encode; an answer of 5 bytes for each. A command with a number
-// above 7 ends the run: the count says how many were taken.
+// above 7 ends the run: the count says how many were taken. The state is tested once.
 #[no_mangle]
 pub extern "C" fn psic_run(state: &mut [u8], list: &[u8], answers: &mut [u8]) -> u64
     ensures { λ r. ⌜ DoesRun r (now (state .exit)) (now (answers .exit))
@@ -74,7 +76,9 @@ pub extern "C" fn psic_run(state: &mut [u8], list: &[u8], answers: &mut [u8]) ->
     if !decoding::is_state(state) {
         return NO_COUNT;
     }
-    let mut s = decoding::state_from(state);
+    let mut keys = [0; CORES];
+    let mut ranks = [0; SOURCES];
+    let sound = steps::begin(state, &mut keys, &mut ranks);
     let mut i = 0;
     while i < list.len() {
         let read = decoding::command(
@@ -85,13 +89,11 @@ pub extern "C" fn psic_run(state: &mut [u8], list: &[u8], answers: &mut [u8]) ->
         match read {
             Decoded::Unknown => break,
             Decoded::Known(c) => {
-                let a = commands::execute(s, c);
-                encoding::put_answer(answers, i, a.number, a.id, a.cycles);
-                s = a.state;
+                let o = steps::step(state, &mut keys, &mut ranks, sound, c);
+                encoding::put_answer(answers, i, o.number, o.id, o.cycles);
             }
         }
         i += COMMAND_SIZE;
     }
-    encoding::put_state(state, s);
     (i / COMMAND_SIZE) as u64
 }

@@ -1,6 +1,4 @@
--- What the code stores, from what each call leaves; and that it is what the definitions say.
+-- What is held after each store.
 pub mod Stored
-pub mod Offering
-pub mod Sourced
-pub mod Claimed
-pub mod Retracted
+pub mod Numbering
+pub mod Refused

@@ -1,12 +1,14 @@
--- The bytes after the stores of a delivery. Assumes nothing.
---   put-back-stored     the code's place of an id is the definitions'
---   deliver-stored      from what each call leaves
---   put-back-is, deliver-is    on the bytes of a state they are those of the state with the request put back, and delivered
-use Prim.Native.Nat.{ℕ, pred, _+_, _-_, _<_, _≤_}
-use mathlib.Core.Path.{_≡_, ap, _∙_}
+-- What is held after each store: bytes and numbers stay those of a state. Assumes nothing.
+--   held-back, held-here              the state that is held is the one that is read
+--   held-source, held-core            one record stored, with its number
+--   read-source, read-core            one record read
+--   back-empty, back-filled           a request put back
+--   held-retracted, held-delivered    a retraction and a delivery
+use Prim.Native.Nat.{ℕ, suc, _+_, _-_, _<_}
+use mathlib.Core.Path.{_≡_, refl, sym, ap, subst, _∙_}
 use mathlib.Core.List.{List}
 use mathlib.Core.Bool.{true, false}
-use lib.ListN.{length, length-set}
+use lib.ListN.{length, set, length-set}
 use lib.Seq.{sets}
 use native.Mathlib.Omega.{arith}
 use native.Mathlib.Numerals.{add-one, sub-one}
@@ -14,66 +16,114 @@ use Rattle.model.specs.declared.Source.{Source}
 use Rattle.model.specs.declared.MessageBox.{MessageBox}
 use Rattle.model.specs.declared.Core.{Core}
 use Rattle.model.specs.declared.Controller.{Controller}
-use Rattle.model.specs.Records.{maxSources, maxCores, sourceId, indexOf, withDelivered, holding, coreWith, sourceAt, coreAt, withSource, withSources}
-use Rattle.model.specs.Settling.{putBack, deliver}
-use Rattle.lists.proofs.Bools.{Flag, on, off, flag}
-use Rattle.layout.specs.Bytes.{sourceBytes, coreBytes, stateBytes, sourceFrom}
-use Rattle.layout.specs.Statements.{Sized}
-use Rattle.layout.proofs.InPlace.{source-in-place, source-stored, core-stored}
-use Rattle.in_place.specs.Places.{sourcePlace, corePlace, putBackAt, takenBy, deliverAt}
+use Rattle.model.specs.Records.{maxSources, maxCores, noSource, noCore, sourceId, emptyBox, withDelivered, holding, coreWith, sourceAt, coreAt, withSource, withSources, withCore}
+use Rattle.model.specs.Settling.{putBack, retract, deliver}
+use Rattle.lists.proofs.Filling.{filled-written}
+use Rattle.arbitration.specs.Places.{keyAt, rankAt}
+use Rattle.layout.specs.Bytes.{sourceBytes, coreBytes, stateSize, sourceFrom, coreFrom, stateFrom}
+use Rattle.layout.proofs.InPlace.{source-in-place, core-in-place, source-stored, core-stored}
+use Rattle.layout.proofs.RoundTrip.{state-length, state-read-back}
+use Rattle.in_place.specs.Held.{sourcePlace, corePlace, Held, NamesSource, PutsBack}
 
--- ---- from what each call leaves
+module _ {s : Controller} {b keys ranks : List ℕ} (h : Held s b keys ranks) where
+  -- the state that is held is the one that is read
+  pub held-back : stateFrom b ≡ s
+  held-back = ap stateFrom (h .bytes-are) ∙ state-read-back s (h .sized)
 
-pub put-back-stored :
-    (b b′ : List ℕ) (box : MessageBox) (r q : Source) → box .filled ≡ true → r ≡ sourceFrom b (sourcePlace (box .source .0 - 1)) →
-    q ≡ withDelivered false r → b′ ≡ sets b (sourcePlace (box .source .0 - 1)) (sourceBytes q) → b′ ≡ putBackAt b box
-put-back-stored b b′ box r q filled e₁ e₂ e₃ = rw (e₃, e₂, e₁, filled, sub-one (box .source .0))
+  pub held-here : Held (stateFrom b) b keys ranks
+  held-here = subst (λ (u : Controller). Held u b keys ranks) (sym held-back) h
 
-pub deliver-stored :
-    (b b₁ b₂ b₃ : List ℕ) (i k : ℕ) (r q : Source) (c d : Core) → b₁ ≡ putBackAt b (c .message) → q ≡ withDelivered true r →
-    b₂ ≡ sets b₁ (sourcePlace i) (sourceBytes q) → d ≡ coreWith (c .configured) (holding (sourceId (i + 1)) (r .priority)) →
-    b₃ ≡ sets b₂ (corePlace k) (coreBytes d) → (b₃ ≡ deliverAt b i r k c) × (d ≡ takenBy c i r)
-deliver-stored b b₁ b₂ b₃ i k r q c d e₁ e₂ e₃ e₄ e₅ =
-    let taken : d ≡ takenBy c i r = rw (e₄, add-one i) in (rw (e₅, taken, e₃, e₂, e₁), taken)
+  pub held-length : length b ≡ stateSize
+  held-length = ap length (h .bytes-are) ∙ state-length s (h .sized)
 
--- ---- on the bytes of a state
+  -- one record, and its number
+  pub held-source :
+      (i : ℕ) → i < maxSources → (r : Source) {b′ ranks′ : List ℕ} → b′ ≡ sets b (sourcePlace i) (sourceBytes r) →
+      ranks′ ≡ set ranks i (rankAt i r) → Held (withSource s i r) b′ keys ranks′
+  held-source i i-lt r {b′} {ranks′} eb er =
+      record {
+        bytes-are =
+            eb ∙ ap (λ (l : List ℕ). sets l (sourcePlace i) (sourceBytes r)) (h .bytes-are) ∙ source-stored s (h .sized) i r i-lt;
+        sized = record { sources = length-set (s .sources) i r ∙ h .sized .sources; cores = h .sized .cores };
+        numbered =
+            record {
+              keyed = h .numbered .keyed;
+              keys-length = h .numbered .keys-length;
+              ranked =
+                  rw er
+                  (filled-written rankAt noSource (s .sources) (s .n) ranks (h .numbered .ranked) i r (rankAt i r)
+                  (omega (arith, i-lt, h .sized .sources)) (omega (arith, i-lt, h .numbered .ranks-length)) refl);
+              ranks-length = ap length er ∙ length-set ranks i (rankAt i r) ∙ h .numbered .ranks-length;
+            };
+      }
 
-module _ (s : Controller) (sized : Sized s) where
-  -- the box of a core, if it is filled, names a source
-  abbrev NamesOne : MessageBox → Type 0
-  NamesOne box = box .filled ≡ true → (1 ≤ box .source .0) × (box .source .0 ≤ maxSources)
+  pub held-core :
+      (k : ℕ) → k < maxCores → (c : Core) {b′ keys′ : List ℕ} → b′ ≡ sets b (corePlace k) (coreBytes c) →
+      keys′ ≡ set keys k (keyAt k c) → Held (withCore s k c) b′ keys′ ranks
+  held-core k k-lt c {b′} {keys′} eb ek =
+      record {
+        bytes-are =
+            eb ∙ ap (λ (l : List ℕ). sets l (corePlace k) (coreBytes c)) (h .bytes-are) ∙ core-stored s (h .sized) k c k-lt;
+        sized = record { sources = h .sized .sources; cores = length-set (s .cores) k c ∙ h .sized .cores };
+        numbered =
+            record {
+              keyed =
+                  rw ek
+                  (filled-written keyAt noCore (s .cores) (s .m) keys (h .numbered .keyed) k c (keyAt k c)
+                  (omega (arith, k-lt, h .sized .cores)) (omega (arith, k-lt, h .numbered .keys-length)) refl);
+              keys-length = ap length ek ∙ length-set keys k (keyAt k c) ∙ h .numbered .keys-length;
+              ranked = h .numbered .ranked;
+              ranks-length = h .numbered .ranks-length;
+            };
+      }
 
-  pub put-back-is : (box : MessageBox) → NamesOne box → putBackAt (stateBytes s) box ≡ stateBytes (withSources s (putBack box (s .sources)))
-  put-back-is box names = go (flag (box .filled))
-    where
-      go : Flag (box .filled) → putBackAt (stateBytes s) box ≡ stateBytes (withSources s (putBack box (s .sources)))
-      go (on f) =
-          let in-array : pred (box .source .0) < maxSources = omega (arith, names f) in
-          rw f
-          (ap (λ (r : Source). sets (stateBytes s) (sourcePlace (indexOf (box .source))) (sourceBytes (withDelivered false r)))
-          (source-in-place s sized (indexOf (box .source)) in-array) ∙
-          source-stored s sized (indexOf (box .source)) (withDelivered false (sourceAt s (indexOf (box .source)))) in-array)
-      go (off f) = rw f
+  pub read-source : (i : ℕ) → i < maxSources → sourceFrom b (sourcePlace i) ≡ sourceAt s i
+  read-source i i-lt = ap (λ (l : List ℕ). sourceFrom l (sourcePlace i)) (h .bytes-are) ∙ source-in-place s (h .sized) i i-lt
 
-length-putBack : (box : MessageBox) (l : List Source) → length (putBack box l) ≡ length l
-length-putBack box l = go (flag (box .filled))
-  where
-    go : Flag (box .filled) → length (putBack box l) ≡ length l
-    go (on f) = rw f (length-set l (indexOf (box .source)) _)
-    go (off f) = rw f
+  pub read-core : (k : ℕ) → k < maxCores → coreFrom b (corePlace k) ≡ coreAt s k
+  read-core k k-lt = ap (λ (l : List ℕ). coreFrom l (corePlace k)) (h .bytes-are) ∙ core-in-place s (h .sized) k k-lt
 
-pub deliver-is :
-    (s : Controller) → Sized s → (i k : ℕ) → i < maxSources → k < maxCores →
-    ((coreAt s k) .message .filled ≡ true → (1 ≤ (coreAt s k) .message .source .0) × ((coreAt s k) .message .source .0 ≤ maxSources)) →
-    deliverAt (stateBytes s) i (sourceAt s i) k (coreAt s k) ≡ stateBytes (deliver s i k)
-unfolding deliver
-deliver-is s sized i k i-lt k-lt names =
-    let s₁ : Controller = withSources s (putBack ((coreAt s k) .message) (s .sources)) in
-    let sized₁ : Sized s₁ = record { sources = length-putBack ((coreAt s k) .message) (s .sources) ∙ sized .sources; cores = sized .cores } in
-    let s₂ : Controller = withSource s₁ i (withDelivered true (sourceAt s i)) in
-    let sized₂ : Sized s₂ = record { sources = length-set (s₁ .sources) i _ ∙ sized₁ .sources; cores = sized .cores } in
-    let source : List ℕ = sourceBytes (withDelivered true (sourceAt s i)) in
-    let core : List ℕ = coreBytes (takenBy (coreAt s k) i (sourceAt s i)) in
-    ap (λ (b : List ℕ). sets (sets b (sourcePlace i) source) (corePlace k) core) (put-back-is s sized ((coreAt s k) .message) names) ∙
-    ap (λ (b : List ℕ). sets b (corePlace k) core) (source-stored s₁ sized₁ i (withDelivered true (sourceAt s i)) i-lt) ∙
-    core-stored s₂ sized₂ k (takenBy (coreAt s k) i (sourceAt s i)) k-lt
+  -- a request put back
+  pub back-empty : (box : MessageBox) → box .filled ≡ false → Held (withSources s (putBack box (s .sources))) b keys ranks
+  back-empty box f = rw f h
+
+  pub back-filled :
+      (box : MessageBox) → NamesSource box → box .filled ≡ true → {r q : Source} {b′ ranks′ : List ℕ} →
+      r ≡ sourceFrom b (sourcePlace (box .source .0 - 1)) → q ≡ withDelivered false r →
+      b′ ≡ sets b (sourcePlace (box .source .0 - 1)) (sourceBytes q) →
+      ranks′ ≡ set ranks (box .source .0 - 1) (rankAt (box .source .0 - 1) q) →
+      Held (withSources s (putBack box (s .sources))) b′ keys ranks′
+  back-filled box names f {r} {q} {b′} {ranks′} er eq eb ek =
+      let in-array : box .source .0 - 1 < maxSources = omega (arith, names f) in
+      let new : q ≡ withDelivered false (sourceAt s (box .source .0 - 1)) = eq ∙ ap (withDelivered false) (er ∙ read-source _ in-array) in
+      let stored : Held (withSource s (box .source .0 - 1) q) b′ keys ranks′ = held-source (box .source .0 - 1) in-array q eb ek in
+      rw (f, ← sub-one (box .source .0)) (rw new at stored)
+
+-- ---- a retraction and a delivery, from what each store leaves
+
+module _ {s : Controller} {b keys ranks b₁ ranks₁ : List ℕ} {k : ℕ} {c : Core} (h : Held s b keys ranks) (k-lt : k < maxCores)
+    (is : c ≡ coreAt s k) (back : PutsBack (c .message) b ranks b₁ ranks₁) where
+  waits : Held (withSources s (putBack ((coreAt s k) .message) (s .sources))) b₁ keys ranks₁
+  waits = rw is at (back s keys h)
+
+  pub held-retracted :
+      {d : Core} {b₂ keys₂ : List ℕ} → d ≡ coreWith (c .configured) emptyBox → b₂ ≡ sets b₁ (corePlace k) (coreBytes d) →
+      keys₂ ≡ set keys k (keyAt k d) → Held (retract s k) b₂ keys₂ ranks₁
+  unfolding retract
+  held-retracted {d} {b₂} {keys₂} new eb ek =
+      let made : d ≡ coreWith ((coreAt s k) .configured) emptyBox = new ∙ ap (λ (e : Core). coreWith (e .configured) emptyBox) is in
+      held-core waits k k-lt (coreWith ((coreAt s k) .configured) emptyBox) (rw made at eb) (rw made at ek)
+
+  pub held-delivered :
+      {i : ℕ} → i < maxSources → {r q : Source} {d : Core} {b₂ ranks₂ b₃ keys₃ : List ℕ} → r ≡ sourceAt s i → q ≡ withDelivered true r →
+      b₂ ≡ sets b₁ (sourcePlace i) (sourceBytes q) → ranks₂ ≡ set ranks₁ i (rankAt i q) →
+      d ≡ coreWith (c .configured) (holding (sourceId (i + 1)) (r .priority)) →
+      b₃ ≡ sets b₂ (corePlace k) (coreBytes d) → keys₃ ≡ set keys k (keyAt k d) → Held (deliver s i k) b₃ keys₃ ranks₂
+  unfolding deliver
+  held-delivered {i} i-lt {r} {q} {d} at-i new eb er taken eb₃ ek =
+      let made : q ≡ withDelivered true (sourceAt s i) = new ∙ ap (withDelivered true) at-i in
+      let filled : d ≡ coreWith ((coreAt s k) .configured) (holding (sourceId (suc i)) ((sourceAt s i) .priority))
+      = rw (taken, is, at-i, add-one i) in
+      let marked : Held (withSources s (set (putBack ((coreAt s k) .message) (s .sources)) i (withDelivered true (sourceAt s i)))) _ keys _
+      = held-source waits i i-lt (withDelivered true (sourceAt s i)) (rw made at eb) (rw made at er) in
+      held-core marked k k-lt _ (rw filled at eb₃) (rw filled at ek)

@@ -1,23 +1,19 @@
-// Commands on a sound state that lies in a host's bytes: the records that change are read, made anew, and written back where they lie.
+// A state in a host's bytes: records are written where they lie, and with each of them the number that stands for its core or its source
+// in arbitration. Nothing else changes a number, so they are right after each store.
 ghost use Prim.Native.Nat.{_<_, _≤_};
 ghost use mathlib.Core.Path.{_≡_};
-ghost use mathlib.Core.Bool.{true, not, _&&_};
 ghost use lib.ListN.{length, set};
+ghost use lib.Seq.{sets};
 ghost use Rattle.model.specs.Records.{maxSources, maxCores};
-ghost use Rattle.model.specs.Arbitration.{coreKey};
-ghost use Rattle.model.specs.Requests.{boxed as boxedIn};
-ghost use Rattle.layout.specs.Bytes.{stateSize, stateFrom};
-ghost use Rattle.in_place.specs.Places.{putBackAt, deliverAt, takenBy, Offered, AfterOffer, Placed, Executed};
-use checks::numbers::BAD_CORE;
-use checks::numbers::BAD_SOURCE;
-use checks::numbers::NOTHING_TO_CLAIM;
+ghost use Rattle.arbitration.specs.Places.{keyAt, rankAt};
+ghost use Rattle.layout.specs.Bytes.{stateSize, sourceBytes, coreBytes, stateFrom};
+ghost use Rattle.in_place.specs.Held.{sourcePlace, corePlace, Numbered, NamesSource, PutsBack, Retracts, Delivers};
+ghost use Rattle.in_place.specs.Steps.{Says};
+use arbitration::places;
 use model::CORES;
-use model::Command;
 use model::Core;
-use model::CoreAction;
-use model::CoreId;
+use model::SOURCES;
 use model::Source;
-use model::SourceAction;
 use model::SourceId;
 
 // What a command answers besides the state: document 01's number, the claimed id, and the cycles.
@@ -27,131 +23,100 @@ pub struct Outcome {
     pub cycles: u16,
 }
 
-fn answered(number: u8, id: SourceId, cycles: u16) -> Outcome
-    ensures { λ r. ⌜ (r .number ≡ number) × (r .id .0 ≡ id .0) × (r .cycles ≡ cycles) ⌝ }
+pub fn answered(number: u8, id: SourceId, cycles: u16) -> Outcome
+    ensures { λ r. ⌜ Says r number (id .0) cycles ⌝ }
 {
     Outcome { number, id, cycles }
 }
 
+// The record of source i + 1.
+pub fn put_source(state: &mut [u8], ranks: &mut [u32; SOURCES], i: usize, r: Source)
+    requires { ⌜ (length (now state) ≡ stateSize) × (i < maxSources) ⌝ }
+    ensures { λ x. ⌜ (now (state .exit) ≡ sets (now (state .entry)) (sourcePlace i) (sourceBytes r)) ×
+        (now (ranks .exit) ≡ set (now (ranks .entry)) i (rankAt i r)) ⌝ }
+{
+    encoding::put_source_at(state, i, r);
+    ranks[i] = places::rank_at(r, i);
+}
+
+// The record of core k.
+pub fn put_core(state: &mut [u8], keys: &mut [u32; CORES], k: usize, c: Core)
+    requires { ⌜ (length (now state) ≡ stateSize) × (k < maxCores) ⌝ }
+    ensures { λ x. ⌜ (now (state .exit) ≡ sets (now (state .entry)) (corePlace k) (coreBytes c)) ×
+        (now (keys .exit) ≡ set (now (keys .entry)) k (keyAt k c)) ⌝ }
+{
+    encoding::put_core_at(state, k, c);
+    keys[k] = places::key_at(c, k);
+}
+
 // The request in the box of core record c, if there is one, goes back to waiting.
-fn put_back(state: &mut [u8], c: Core)
-    requires { ⌜ (length (now state) ≡ stateSize) ×
-        (c .message .filled ≡ true → (1 ≤ c .message .source .0) × (c .message .source .0 ≤ maxSources)) ⌝ }
-    ensures { λ x. ⌜ now (state .exit) ≡ putBackAt (now (state .entry)) (c .message) ⌝ }
+fn put_back(state: &mut [u8], ranks: &mut [u32; SOURCES], c: Core)
+    requires { ⌜ (length (now state) ≡ stateSize) × NamesSource (c .message) ⌝ }
+    ensures { λ x. ⌜ PutsBack (c .message) (now (state .entry)) (now (ranks .entry)) (now (state .exit)) (now (ranks .exit)) ⌝ }
 {
     if c.message.filled {
         let old = c.message.source.0 as usize - 1;
         let r = decoding::source_at(state, old);
-        encoding::put_source_at(state, old, records::with_delivered(r, false));
+        put_source(state, ranks, old, records::with_delivered(r, false));
     }
 }
 
-// The request of source i + 1, whose record is r, goes into the box of core k, whose record is c; keys are the cores' keys.
-fn deliver(state: &mut [u8], keys: &mut [u32; CORES], i: usize, r: Source, k: usize, c: Core)
-    requires { ⌜ (length (now state) ≡ stateSize) × (i < maxSources) × (k < maxCores) ×
-        (c .message .filled ≡ true → (1 ≤ c .message .source .0) × (c .message .source .0 ≤ maxSources)) ⌝ }
-    ensures { λ x. ⌜ (now (state .exit) ≡ deliverAt (now (state .entry)) i r k c) ×
-        (now (keys .exit) ≡ set (now (keys .entry)) k (coreKey (takenBy c i r))) ⌝ }
-{
-    put_back(state, c);
-    encoding::put_source_at(state, i, records::with_delivered(r, true));
-    let taken = records::filled_with(c, SourceId(i as u16 + 1), r.priority);
-    encoding::put_core_at(state, k, taken);
-    keys[k] = records::core_key(taken);
-}
-
-// The request of source i + 1, whose record is r, goes to the least of m cores, if it is a candidate and strictly above it. The cycles are
-// answered: one for a delivery, else none.
-fn offer(state: &mut [u8], keys: &mut [u32; CORES], m: usize, i: usize, r: Source) -> u16
-    requires { ⌜ Offered (now state) (now keys) m i r ⌝ }
-    ensures { λ x. ⌜ AfterOffer (now (state .entry)) i x (now (state .exit)) (now (keys .exit)) ⌝ }
-{
-    let k = arbitration::least(keys, m);
-    let c = decoding::core_at(state, k);
-    if records::rank(r) <= records::current_priority(c) as u32 + 1 {
-        return 0;
-    }
-    deliver(state, keys, i, r, k, c);
-    1
-}
-
-// Whether a filled box of the first m cores names the source.
-fn boxed(state: &[u8], m: usize, id: SourceId) -> bool
-    requires { ⌜ (length (now state) ≡ stateSize) × (m ≤ maxCores) ⌝ }
-    ensures { λ r. ⌜ r ≡ boxedIn ((stateFrom (now (state .entry))) .cores) m (id .0) ⌝ }
-{
-    let mut k = 0;
-    while k < m {
-        let c = decoding::core_at(state, k);
-        if c.message.filled {
-            if c.message.source.0 == id.0 {
-                return true;
-            }
-        }
-        k += 1;
-    }
-    false
-}
-
-// Whether the request of a source, whose record is r, is claimed: pending, delivered, and in no box.
-fn is_claimed(state: &[u8], m: usize, id: SourceId, r: Source) -> bool
-    requires { ⌜ (length (now state) ≡ stateSize) × (m ≤ maxCores) ⌝ }
-    ensures { λ x. ⌜ x ≡ r .pending && r .delivered && not (boxedIn ((stateFrom (now (state .entry))) .cores) m (id .0)) ⌝ }
-{
-    if !r.pending {
-        return false;
-    }
-    if !r.delivered {
-        return false;
-    }
-    !boxed(state, m, id)
-}
-
-// A command on a source: decided by its record, then stored.
-pub fn on_source(
+// The box of core k, whose record is c, is emptied, and its request waits.
+pub fn retract(
     state: &mut [u8],
     keys: &mut [u32; CORES],
-    id: SourceId,
-    a: SourceAction,
-) -> Outcome
-    requires { ⌜ Placed (now state) (now keys) ⌝ }
-    ensures { λ r. ⌜ Executed (now (state .entry)) (Command.OnSource id a) r (now (state .exit)) (now (keys .exit)) ⌝ }
+    ranks: &mut [u32; SOURCES],
+    k: usize,
+    c: Core,
+)
+    requires { ⌜ (length (now state) ≡ stateSize) × (k < maxCores) × NamesSource (c .message) ⌝ }
+    ensures { λ x. ⌜ Retracts k c (now (state .entry)) (now (keys .entry)) (now (ranks .entry))
+        (now (state .exit)) (now (keys .exit)) (now (ranks .exit)) ⌝ }
 {
-    let n = decoding::word_at(state, 0);
-    if !checks::names_source(n, id) {
-        return answered(BAD_SOURCE, SourceId(0), 0);
-    }
-    let i = id.0 as usize - 1;
-    let m = decoding::word_at(state, 2) as usize;
-    let r = decoding::source_at(state, i);
-    let claimed = is_claimed(state, m, id, r);
-    let number = checks::source_refusal(n, r, claimed, a);
-    if number != 0 {
-        return answered(number, SourceId(0), 0);
-    }
-    let next = records::source_after(a, r);
-    encoding::put_source_at(state, i, next);
-    let cycles = offer(state, keys, m, i, next);
-    answered(0, SourceId(0), cycles)
+    put_back(state, ranks, c);
+    put_core(state, keys, k, records::emptied(c));
 }
 
-// A claim on a core: the box is emptied, and the core rises to the request's priority. Nothing is left to settle.
-pub fn claim(state: &mut [u8], keys: &mut [u32; CORES], core: CoreId) -> Outcome
-    requires { ⌜ Placed (now state) (now keys) ⌝ }
-    ensures { λ r. ⌜ Executed (now (state .entry)) (Command.OnCore core CoreAction.Claim) r (now (state .exit)) (now (keys .exit)) ⌝ }
+// The request of source i + 1, whose record is r, goes into the box of core k, whose record is c.
+pub fn deliver(
+    state: &mut [u8],
+    keys: &mut [u32; CORES],
+    ranks: &mut [u32; SOURCES],
+    i: usize,
+    r: Source,
+    k: usize,
+    c: Core,
+)
+    requires { ⌜ (length (now state) ≡ stateSize) × (i < maxSources) × (k < maxCores) × NamesSource (c .message) ⌝ }
+    ensures { λ x. ⌜ Delivers i r k c (now (state .entry)) (now (keys .entry)) (now (ranks .entry))
+        (now (state .exit)) (now (keys .exit)) (now (ranks .exit)) ⌝ }
 {
-    let m = decoding::word_at(state, 2);
-    if !checks::names_core(m, core) {
-        return answered(BAD_CORE, SourceId(0), 0);
+    put_back(state, ranks, c);
+    put_source(state, ranks, i, records::with_delivered(r, true));
+    put_core(
+        state,
+        keys,
+        k,
+        records::filled_with(c, SourceId(i as u16 + 1), r.priority),
+    );
+}
+
+// The numbers of all cores and all sources in use.
+pub fn number_all(state: &[u8], keys: &mut [u32; CORES], ranks: &mut [u32; SOURCES])
+    requires { ⌜ (length (now state) ≡ stateSize) × ((stateFrom (now state)) .n ≤ maxSources) × ((stateFrom (now state)) .m ≤ maxCores) ×
+        (length (now keys) ≡ maxCores) × (length (now ranks) ≡ maxSources) ⌝ }
+    ensures { λ x. ⌜ Numbered (stateFrom (now (state .entry))) (now (keys .exit)) (now (ranks .exit)) ⌝ }
+{
+    let n = decoding::word_at(state, 0) as usize;
+    let m = decoding::word_at(state, 2) as usize;
+    let mut k = 0;
+    while k < m {
+        keys[k] = places::key_at(decoding::core_at(state, k), k);
+        k += 1;
     }
-    let k = core.0 as usize;
-    let c = decoding::core_at(state, k);
-    if !c.message.filled {
-        return answered(NOTHING_TO_CLAIM, SourceId(0), 0);
+    let mut i = 0;
+    while i < n {
+        ranks[i] = places::rank_at(decoding::source_at(state, i), i);
+        i += 1;
     }
-    let id = c.message.source;
-    let next = records::claimed_core(c);
-    encoding::put_core_at(state, k, next);
-    keys[k] = records::core_key(next);
-    answered(0, id, 0)
 }

@@ -4,8 +4,7 @@
 --   source-stored, core-stored        its bytes stored there leave the bytes of the state with that record
 use Prim.Native.Nat.{ℕ, _+_, _*_, _<_}
 use mathlib.Core.Path.{_≡_, refl, ap, _∙_}
-use mathlib.Core.List.{List, [], _∷_, _++_}
-use lib.ListN.{length}
+use mathlib.Core.List.{List, _++_}
 use lib.Seq.{sets}
 use native.Mathlib.Omega.{arith}
 use Rattle.model.specs.declared.Source.{Source}
@@ -18,7 +17,7 @@ use Rattle.lists.proofs.Stores.{sets-front, sets-behind, sets-joined}
 use Rattle.layout.specs.Bytes.{word, sourceSize, coreSize, sourcesFrom, coresFrom, sourceBytes, coreBytes, stateBytes, sourceFrom, coreFrom, stateFrom}
 use Rattle.layout.specs.Statements.{Sized}
 use Rattle.layout.proofs.Records.{source-back, core-back}
-use Rattle.layout.proofs.RoundTrip.{sources-length, cores-length, source-there, core-there}
+use Rattle.layout.proofs.RoundTrip.{sources-length, source-there, core-there}
 
 module _ (b : List ℕ) where
   pub source-read : (i : ℕ) → i < maxSources → sourceAt (stateFrom b) i ≡ sourceFrom b (sourcesFrom + sourceSize * i)

@@ -2,18 +2,18 @@
 --   Filled P Q d size i l          a list of that size: P holds of each of the first i elements, Q of each of the others
 --   filled-none, filled-more       nothing is written; the next element is
 --   filled-tabulated, filled-map   all are written: the list of a function's values; a list changed element by element
---   Filling f d l size i ks        a row of numbers filled so, one for each element of l (`FilledTo`)
+--   Filling f d l size i ks        a row of numbers filled so, one for each element of l (`FilledBy`)
 --   filling-none, filling-more     the same of such a row
 --   filled-written                 an element and its number written at the same index
-use Prim.Native.Nat.{ℕ, zero, suc, _+_, _<_, _≤_}
-use mathlib.Core.Path.{_≡_, refl, sym, ap₂, _∙_}
-use mathlib.Core.List.{List, [], _∷_, map}
+use Prim.Native.Nat.{ℕ, _+_, _<_, _≤_}
+use mathlib.Core.Path.{_≡_, sym, _∙_}
+use mathlib.Core.List.{List}
 use lib.ListN.{length, getD, set, replicate, length-replicate, length-set}
 use lib.Seq.{getD-set-same, getD-set-other}
 use native.Mathlib.Omega.{arith}
 use native.Mathlib.Decide.{ℕ-discrete}
 use borrow.Author.Count.{below-more}
-use Rattle.lists.specs.Rows.{tabulated, FilledTo}
+use Rattle.lists.specs.Rows.{tabulated, FilledBy}
 use Rattle.lists.proofs.Rows.{tabulated-all}
 
 -- ---- a list
@@ -52,34 +52,15 @@ module _ {A : Type 0} (d : A) where
       (f : ℕ → A) {size i : ℕ} {l : List A} → Filled (ValueOf f) Anything d size i l → size ≤ i → l ≡ tabulated size f
   filled-tabulated f {size} {i} {l} r h = sym (tabulated-all size f l d (r .whole) (λ j p. sym (r .filled j (omega arith))))
 
-  -- of a list that is changed in place: what an element becomes, and that it is as it was
-  abbrev pub Changed : (A → A) → List A → ℕ → A → Type 0
-  Changed f l j x = x ≡ f (getD l j d)
-
-  abbrev pub Unchanged : List A → ℕ → A → Type 0
-  Unchanged l j x = x ≡ getD l j d
-
-  map-by : (f : A → A) (l now : List A) → length now ≡ length l → ((j : ℕ) → j < length l → getD now j d ≡ f (getD l j d)) → now ≡ map f l
-  map-by f [] [] e h = refl
-  map-by f [] (y ∷ now) e h = absurd (omega arith)
-  map-by f (x ∷ l) [] e h = absurd (omega arith)
-  map-by f (x ∷ l) (y ∷ now) e h =
-      ap₂ _∷_ (h zero (omega arith)) (map-by f l now (omega arith) (λ j p. h (suc j) (omega arith)))
-
-  pub filled-map :
-      (f : A → A) (l : List A) {size i : ℕ} {now : List A} → length l ≡ size → Filled (Changed f l) (Unchanged l) d size i now →
-      size ≤ i → now ≡ map f l
-  filled-map f l {size} {i} {now} e r h = map-by f l now (r .whole ∙ sym e) (λ j p. r .filled j (omega arith))
-
 -- ---- a row of numbers
 
-pub record Filling {A : Type 0} (f : A → ℕ) (d : A) (l : List A) (size i : ℕ) (ks : List ℕ) : Type 0 where
+pub record Filling {A : Type 0} (f : ℕ → A → ℕ) (d : A) (l : List A) (size i : ℕ) (ks : List ℕ) : Type 0 where
   pub whole : length ks ≡ size
-  pub filled : FilledTo f d l i ks
+  pub filled : FilledBy f d l i ks
 
-module _ {A : Type 0} (f : A → ℕ) (d : A) (l : List A) where
+module _ {A : Type 0} (f : ℕ → A → ℕ) (d : A) (l : List A) where
   abbrev Number : ℕ → ℕ → Type 0
-  Number j v = v ≡ f (getD l j d)
+  Number j v = v ≡ f j (getD l j d)
 
   abbrev Row : ℕ → ℕ → List ℕ → Type 0
   Row size i ks = Filled Number Anything 0 size i ks
@@ -87,21 +68,24 @@ module _ {A : Type 0} (f : A → ℕ) (d : A) (l : List A) where
   filling : {size i : ℕ} {ks : List ℕ} → Row size i ks → Filling f d l size i ks
   filling r = record { whole = r .whole; filled = r .filled }
 
+  pub filling-begin : {size : ℕ} {ks : List ℕ} → length ks ≡ size → Filling f d l size 0 ks
+  filling-begin e = filling (filled-none Number Anything 0 e (λ j. tt))
+
   pub filling-none : (size : ℕ) → Filling f d l size 0 (replicate size 0)
-  filling-none size = filling (filled-none Number Anything 0 (length-replicate size 0) (λ j. tt))
+  filling-none size = filling-begin (length-replicate size 0)
 
   pub filling-more :
-      {size i : ℕ} {ks : List ℕ} → Filling f d l size i ks → i < size → (v : ℕ) → v ≡ f (getD l i d) →
+      {size i : ℕ} {ks : List ℕ} → Filling f d l size i ks → i < size → (v : ℕ) → v ≡ f i (getD l i d) →
       Filling f d l size (i + 1) (set ks i v)
   filling-more {size} {i} {ks} r h v e =
       let row : Row size i ks = record { whole = r .whole; filled = r .filled; rest = λ j p. tt } in
       filling (filled-more Number Anything 0 row h v e)
 
   pub filled-written :
-      (n : ℕ) (ks : List ℕ) → FilledTo f d l n ks → (i : ℕ) (x : A) (v : ℕ) → i < length l → i < length ks → v ≡ f x →
-      FilledTo f d (set l i x) n (set ks i v)
+      (n : ℕ) (ks : List ℕ) → FilledBy f d l n ks → (i : ℕ) (x : A) (v : ℕ) → i < length l → i < length ks → v ≡ f i x →
+      FilledBy f d (set l i x) n (set ks i v)
   filled-written n ks filled i x v in-list in-row e j h = go (ℕ-discrete j i)
     where
-      go : Dec (j ≡ i) → getD (set ks i v) j 0 ≡ f (getD (set l i x) j d)
+      go : Dec (j ≡ i) → getD (set ks i v) j 0 ≡ f j (getD (set l i x) j d)
       go (yes p) = rw (p, getD-set-same ks i v 0 in-row, getD-set-same l i x d in-list) e
       go (no q) = rw (getD-set-other ks i j v 0 q, getD-set-other l i j x d q) (filled j h)

@@ -2,7 +2,7 @@
 --   by-halves                       what holds of ranges of none and of one, and of a range if of its halves, holds of all
 --   halved-enough, halved-node      every bound on the depth that is enough makes the same tree; that of a range has those of its halves
 --   ranges-halves                   so the list of its ranges has theirs
---   occupied-single, occupied-pair  the count for one such number, and for two numbers of which one is such
+--   occupied-single                 the count for one such number
 --   occupied-node                   the count for a range that has such a number, from those for its halves
 --   occupied-cong                   tests that agree inside the range
 --   occupied-none, occupied-some    no such number: 0; some: at least 1
@@ -14,13 +14,11 @@ use mathlib.Core.List.{List, [], _∷_, _++_}
 use mathlib.Core.Bool.{Bool, true, false, cond}
 use native.Mathlib.Nat.{add-zero, mul-add, suc-mul, mul-le-mul-right}
 use native.Mathlib.Omega.{arith}
-use native.Mathlib.Numerals.{add-one}
 use lib.ListN.{length}
 use Rattle.lists.specs.Rows.{filter}
 use Rattle.lists.specs.Walks.{tally, leftHalf, Comparators, over, halved, longestPath, rangesOf, ranges, within, occupied}
-use Rattle.lists.proofs.Bools.{Flag, on, off, flag}
 use Rattle.lists.proofs.Walks.{some-agree}
-use Rattle.lists.proofs.Tallies.{one-le, tally-step, tally-mono, within-in, within-rise, within-level}
+use Rattle.lists.proofs.Tallies.{one-le, tally-mono, within-in, within-rise, within-level}
 
 -- ---- the tree
 
@@ -115,20 +113,6 @@ module _ (f : ℕ → Bool) where
   occupied-some lo zero e = absurd (omega (arith, within-rise f lo 0 e, ap (λ (i : ℕ). tally i f) (add-zero lo)))
   occupied-some lo (suc zero) e = omega (arith, occupied-single lo e)
   occupied-some lo (suc (suc k)) e = omega (arith, occupied-node lo (suc (suc k)) (omega arith) e)
-
-  -- one number counts as in the tally
-  occupied-tally : (lo : ℕ) → occupied f lo 1 + tally lo f ≡ tally (lo + 1) f
-  occupied-tally lo = go (flag (within f (lo, 1)))
-    where
-      go : Flag (within f (lo, 1)) → occupied f lo 1 + tally lo f ≡ tally (lo + 1) f
-      go (on e) = omega (arith, occupied-single lo e, within-rise f lo 1 e, ap (λ (i : ℕ). tally i f) (add-one lo), tally-step f lo .1)
-      go (off e) = omega (arith, rw e at (occupied-one lo), within-level f lo 1 e)
-
-  -- a pair, and each such number of it
-  pub occupied-pair : (lo : ℕ) → within f (lo, 2) ≡ true → occupied f lo 2 + tally lo f ≡ tally (lo + 2) f + 1
-  occupied-pair lo e =
-      let end : tally (lo + 1 + 1) f ≡ tally (lo + 2) f = ap (λ (i : ℕ). tally i f) (omega arith) in
-      omega (arith, occupied-node lo 2 (omega arith) e, occupied-tally lo, occupied-tally (lo + 1))
 
   -- ---- how large the count is
 

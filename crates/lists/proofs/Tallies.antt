@@ -9,12 +9,10 @@
 --   within-rise, within-level     it raises the tally; one without leaves it
 --   level-within, rise-within     and so the tallies before its two ends tell whether it has one
 use Prim.Native.Nat.{ℕ, zero, suc, _+_, _-_, _<_, _≤_}
-use mathlib.Core.Path.{_≡_, refl, _∙_}
-use mathlib.Core.Logic.{_≢_}
+use mathlib.Core.Path.{_≡_, _∙_}
 use mathlib.Core.Bool.{Bool, true, false, cond}
 use native.Mathlib.Nat.{add-zero, add-suc}
 use native.Mathlib.Omega.{arith}
-use native.Mathlib.Decide.{ℕ-discrete}
 use Rattle.lists.specs.Walks.{tally, within}
 use Rattle.lists.proofs.Bools.{clash, refuted, confirmed}
 use Rattle.lists.proofs.Walks.{Witness, some-in, some-out}
@@ -79,22 +77,3 @@ module _ (f : ℕ → Bool) where
 
   pub rise-within : (lo len : ℕ) → (tally lo f ≡ tally (lo + len) f → ⊥) → within f (lo, len) ≡ true
   rise-within lo len d = confirmed (within f (lo, len)) (λ p. omega (arith, within-level lo len p))
-
-pub tally-cong : (n : ℕ) (f g : ℕ → Bool) → ((k : ℕ) → k < n → f k ≡ g k) → tally n f ≡ tally n g
-unfolding tally
-tally-cong zero f g h = refl
-tally-cong (suc k) f g h = rw (tally-cong k f g (λ j p. h j (omega arith)), h k (omega arith))
-
--- tests that agree but at one number
-pub tally-differ :
-    (f g : ℕ → Bool) (at : ℕ) → ((k : ℕ) → k ≢ at → f k ≡ g k) → (n : ℕ) → at < n →
-    tally n f + cond (g at) 1 0 ≡ tally n g + cond (f at) 1 0
-unfolding tally
-tally-differ f g at agree zero h = absurd (omega arith)
-tally-differ f g at agree (suc k) h = go (ℕ-discrete k at) (tally-differ f g at agree k)
-  where
-    go :
-        Dec (k ≡ at) → (at < k → tally k f + cond (g at) 1 0 ≡ tally k g + cond (f at) 1 0) →
-        tally (suc k) f + cond (g at) 1 0 ≡ tally (suc k) g + cond (f at) 1 0
-    go (yes e) rest = rw (e, tally-cong at f g (λ j u. agree j (omega arith))) (omega arith)
-    go (no d) rest = rw (agree k d) (omega (arith, rest (omega arith)))

@@ -3,7 +3,8 @@
 --   joined f l             the lists f x of each x of l, joined
 --   filter f l             the values of l that pass f, in their order
 --   write f at v           the function f with the value at one place replaced
---   FilledTo f d l n ks    the first n numbers of ks are what f says of the first n elements of l
+--   FilledBy f d l n ks    the first n numbers of ks are what f says of the first n elements of l, each with its index
+--   FilledTo f d l n ks    the same where the index says nothing
 use Prim.Native.Nat.{ℕ, zero, suc, _<_}
 use mathlib.Core.Path.{_≡_}
 use mathlib.Core.List.{List, [], _∷_, _++_}
@@ -39,5 +40,8 @@ abbrev pub write {ℓ} : {A : Type ℓ} → (ℕ → A) → ℕ → A → ℕ �
 write f at v x = cond (eqb x at) v (f x)
 
 -- Past its end the list reads as d, and ks as 0.
+abbrev pub FilledBy : {A : Type 0} → (ℕ → A → ℕ) → A → List A → ℕ → List ℕ → Type 0
+FilledBy f d l n ks = (i : ℕ) → i < n → getD ks i 0 ≡ f i (getD l i d)
+
 abbrev pub FilledTo : {A : Type 0} → (A → ℕ) → A → List A → ℕ → List ℕ → Type 0
-FilledTo f d l n ks = (i : ℕ) → i < n → getD ks i 0 ≡ f (getD l i d)
+FilledTo f d l n ks = FilledBy (λ i x. f x) d l n ks

@@ -17,6 +17,7 @@ use Rattle.model.specs.declared.Core.{Core}
 use Rattle.model.specs.declared.Controller.{Controller}
 use Rattle.model.specs.declared.Answer.{Answer}
 use Rattle.model.specs.declared.Found.{Found}
+use Rattle.model.specs.declared.Ranged.{Ranged}
 use Rattle.model.specs.declared.Taken.{Taken}
 use Rattle.model.specs.declared.Claimed.{Claimed}
 
@@ -136,6 +137,9 @@ answer s number id cycles = record { state = s; number = number; id = sourceId i
 
 abbrev pub found : ℕ → ℕ → Found
 found number position = record { number = number; position = position }
+
+abbrev pub ranged : ℕ → ℕ → Ranged
+ranged number ranges = record { number = number; ranges = ranges }
 
 abbrev pub taken : ℕ → SourceId → Core → Taken
 taken number id c = record { number = number; id = id; core = c }

@@ -5,7 +5,7 @@ use Prim.Native.Nat.{ℕ, suc, _+_, _*_, _^_, _<_, _≤_}
 use mathlib.Core.Path.{_≡_}
 use mathlib.Core.Logic.{_↔_, _≢_}
 use mathlib.Core.List.{List}
-use mathlib.Core.Bool.{Bool, true, false, not, _||_, cond}
+use mathlib.Core.Bool.{Bool, true, false, _||_, cond}
 use lib.ListN.{getD, take}
 use lib.Dec.{eqb}
 use Rattle.model.specs.WellFormed.{NoneAbove, Frugal, frugal, Quiet, quiet, Clean, boxesClean, Consistent, consistent, wellFormed, WellFormed}

@@ -98,6 +98,13 @@ pub struct Found {
     pub position: u16,
 }
 
+// How many ranges of the comparator tree the search over a lent list looks into, with document 01's number.
+#[repr(C)]
+pub struct Ranged {
+    pub number: u8,
+    pub ranges: u16,
+}
+
 // What the claim of one core record gives: document 01's number, the claimed id, and the record after it.
 pub struct Taken {
     pub number: u8,

@@ -1,13 +1,15 @@
 -- A replay, a command at a time. Assumes nothing.
 --   ReplayedTo                                    as many commands as are counted are run, and their answers written; those to come, run
 --                                                 from the state reached, end as the whole text's do from the start
---   replayed-none, replayed-past, replayed-more   nothing is read; a part without a command, and a part with one
+--   encoded                                       the bytes of the fresh state
+--   replayed-none, replayed-past, replayed-more   nothing is read; a part without a command, and a part with one (`replayed-went` from what
+--                                                 a step leaves)
 --   replay-end, replay-refused, replay-unfit      nothing is left, sizes out of range, no room: what the call answers and writes
 --   no-state, no-answers, fits                    whether the buffers fit
 use Prim.Native.Nat.{ℕ, _+_, _*_, _<_, _≤_}
-use mathlib.Core.Path.{_≡_, refl, sym, ap, _∙_}
-use mathlib.Core.List.{List, [], _∷_}
-use mathlib.Core.Bool.{true, false, and-false, cond}
+use mathlib.Core.Path.{_≡_, refl, sym, ap, subst, _∙_}
+use mathlib.Core.List.{List, [], _∷_, _++_}
+use mathlib.Core.Bool.{Bool, true, false, and-false, cond}
 use native.Mathlib.Omega.{arith}
 use lib.ListN.{length}
 use lib.Seq.{sets, length-sets}
@@ -22,8 +24,13 @@ use Rattle.model.specs.Records.{reset}
 use Rattle.model.specs.WellFormed.{sizesInRange}
 use Rattle.model.specs.Behaviours.{runBy, answersBy}
 use Rattle.model.specs.Commands.{execute, make, run}
-use Rattle.layout.specs.Bytes.{stateSize, stateBytes, answerSize, answerBytes}
+use Rattle.layout.specs.Bytes.{word, stateSize, stateBytes, stateFrom, isState, answerSize, answerBytes}
+use Rattle.layout.specs.Statements.{Sized}
 use Rattle.layout.proofs.Answers.{answersFrom, answers-count, answers-more}
+use Rattle.layout.proofs.RoundTrip.{state-read-back, state-encoded}
+use Rattle.in_place.specs.declared.Outcome.{Outcome}
+use Rattle.in_place.specs.Steps.{Says}
+use Rattle.steps.specs.Going.{Went}
 use Rattle.recording.specs.declared.Reader.{Reader}
 use Rattle.recording.specs.declared.Report.{Report}
 use Rattle.recording.specs.Reading.{isGood, Reading, reading}
@@ -66,6 +73,13 @@ module _ (n m : ℕ) (a : Answer) (e : a ≡ make n m) where
       go : Flag (sizesInRange n m) → (sizesInRange n m ≡ true) × (a .state ≡ reset n m)
       go (on p) = (p, ap (λ (x : Answer). x .state) e ∙ rw p)
       go (off p) = let k : a .number ≡ 2 = ap (λ (x : Answer). x .number) e ∙ rw p in absurd (omega arith)
+
+  -- its bytes encode it
+  pub encoded : {b : List ℕ} → a .number ≡ 0 → b ≡ stateBytes (a .state) → (isState b ≡ true) × (stateFrom b ≡ reset n m)
+  encoded {b} h eb =
+      let sized : Sized (reset n m) = record { sources = refl; cores = refl } in
+      let bytes : b ≡ stateBytes (reset n m) = eb ∙ ap stateBytes (made h .1) in
+      (ap isState bytes ∙ state-encoded (reset n m) sized .0, ap stateFrom bytes ∙ state-read-back (reset n m) sized)
 
   -- sizes out of range are refused before any reading
   pub replay-refused :
@@ -121,6 +135,20 @@ module _ (t answers₀ : List ℕ) (s₀ : Controller) where
               answers-more answers answers′ s (answerSize * count) c a (q′ .commands) ea ew ∙
               ap (λ (x : Remaining). sets answers (answerSize * count) (answersFrom s (x .commands))) (sym e) ∙ h .written;
         }
+
+-- the same from what a step leaves
+pub replayed-went :
+    (t answers₀ : List ℕ) (s₀ : Controller) (answers answers′ b : List ℕ) (at at′ count time : ℕ) (q q′ : Remaining) (c : Command)
+    {sound : Bool} {o : Outcome} {b′ keys′ ranks′ : List ℕ} → ReplayedTo t answers₀ s₀ answers (stateFrom b) at count q → at′ ≤ length t →
+    q ≡ remainingWith (c ∷ q′ .commands) (time ∷ q′ .times) (q′ .reader) → Went (execute (stateFrom b) c) sound o b′ keys′ ranks′ →
+    answers′ ≡ sets answers (answerSize * count) (o .number ∷ (word (o .id .0) ++ word (o .cycles))) →
+    ReplayedTo t answers₀ s₀ answers′ (stateFrom b′) at′ (count + 1) q′
+replayed-went t answers₀ s₀ answers answers′ b at at′ count time q q′ c h inside e w ew =
+    let a : Answer = execute (stateFrom b) c in
+    let (number-is, id-is, cycles-are) : Says _ (a .number) (a .id .0) (a .cycles) = w .says in
+    subst (λ (s : Controller). ReplayedTo t answers₀ s₀ answers′ s at′ (count + 1) q′) (sym (w .state-is))
+    (replayed-more t answers₀ s₀ answers (stateFrom b) at at′ count q q′ h inside answers′ time c a e refl
+    (ew ∙ rw (number-is, id-is, cycles-are)))
 
 -- ---- the end
 

@@ -9,7 +9,9 @@ ghost use Rattle.recording.specs.Stamps.{maxCommands, named, commandsOf};
 ghost use Rattle.recording.specs.Reading.{isGood};
 ghost use Rattle.recording.specs.Calls.{reportWith, noRoom, readCall, fitsRead, DoesRead, replayCall, fitsReplay, DoesReplay};
 ghost use Rattle.recording_calls.specs.Remaining.{Continues};
+use model::CORES;
 use model::Decoded;
+use model::SOURCES;
 use recording::Reader;
 use recording::Report;
 use recording::Strobe;
@@ -146,7 +148,11 @@ fn replay_all(n: u16, m: u16, text: &[u8], state: &mut [u8], answers: &mut [u8])
     if made.number != 0 {
         return report_with(made.number, 0, 0);
     }
-    let mut s = made.state;
+    let fresh = made.state;
+    encoding::put_state(state, fresh);
+    let mut keys = [0; CORES];
+    let mut ranks = [0; SOURCES];
+    let sound = steps::begin(state, &mut keys, &mut ranks);
     let mut r = readers::start();
     let mut at = 0;
     let mut count = 0;
@@ -160,14 +166,12 @@ fn replay_all(n: u16, m: u16, text: &[u8], state: &mut [u8], answers: &mut [u8])
         match d {
             Decoded::Unknown => continue,
             Decoded::Known(c) => {
-                let b = commands::execute(s, c);
-                encoding::put_answer(answers, 5 * count, b.number, b.id, b.cycles);
-                s = b.state;
+                let o = steps::step(state, &mut keys, &mut ranks, sound, c);
+                encoding::put_answer(answers, 5 * count, o.number, o.id, o.cycles);
                 count += 1;
             }
         }
     }
-    encoding::put_state(state, s);
     report_of(r, count as u16, text.len() as u64)
 }
 

@@ -3,8 +3,8 @@ ghost use mathlib.Core.Path.{_≡_};
 ghost use Rattle.model.specs.Records.{sourceWith, withConfigured, withMask, withDelivered, opened as openedOf, ended as endedOf, boxWith, emptyBox, holding, coreWith, reset as resetOf, answer};
 ghost use Rattle.model.specs.Priorities.{topPriority};
 ghost use Rattle.model.specs.Requests.{currentPriority, candidate};
-ghost use Rattle.model.specs.Arbitration.{rank as rankOf, coreKey};
-ghost use Rattle.model.specs.Commands.{claimedCore, soiled as soiledCore, sourceAfter};
+ghost use Rattle.model.specs.Arbitration.{rank as rankOf};
+ghost use Rattle.model.specs.Commands.{claimedCore, sourceAfter};
 use model::Answer;
 use model::CORES;
 use model::Controller;
@@ -117,22 +117,6 @@ pub fn claimed_core(c: Core) -> Core
     core_with(c.message.priority, empty_box())
 }
 
-// The core with its box made dirty, if it is filled.
-pub fn soiled(c: Core) -> Core
-    ensures { λ r. ⌜ r ≡ soiledCore c ⌝ }
-{
-    let source = c.message.source;
-    core_with(
-        c.configured,
-        box_with(
-            c.message.filled,
-            c.message.filled,
-            source,
-            c.message.priority,
-        ),
-    )
-}
-
 // The source after an action, before settling.
 pub fn source_after(a: SourceAction, r: Source) -> Source
     ensures { λ s. ⌜ s ≡ sourceAfter a r ⌝ }
@@ -163,27 +147,15 @@ pub fn reset(n: u16, m: u16) -> Controller
 
 // ---- answers
 
-// What an accepted command answers.
-pub fn accepted(state: Controller, id: SourceId, cycles: u16) -> Answer
-    ensures { λ r. ⌜ r ≡ answer state 0 (id .0) cycles ⌝ }
-{
-    Answer {
-        state,
-        number: 0,
-        id,
-        cycles,
-    }
-}
-
-// What a refused one answers, with the state that it hands back.
-pub fn refused(state: Controller, number: u8) -> Answer
-    ensures { λ r. ⌜ r ≡ answer state number 0 0 ⌝ }
+// What a command answers, with the state that it hands back.
+pub fn answer_with(state: Controller, number: u8, id: SourceId, cycles: u16) -> Answer
+    ensures { λ r. ⌜ r ≡ answer state number (id .0) cycles ⌝ }
 {
     Answer {
         state,
         number,
-        id: SourceId(0),
-        cycles: 0,
+        id,
+        cycles,
     }
 }
 
@@ -209,17 +181,6 @@ pub fn current_priority(c: Core) -> u16
     } else {
         c.configured
     }
-}
-
-// Where a core stands in arbitration: twice its current priority, and one more where its box is empty, so that on a tie a filled box
-// goes first.
-pub fn core_key(c: Core) -> u32
-    ensures { λ k. ⌜ k ≡ coreKey c ⌝ }
-{
-    if !c.message.filled {
-        return 2 * c.configured as u32 + 1;
-    }
-    2 * c.message.priority as u32
 }
 
 // Pending, not delivered, not masked.

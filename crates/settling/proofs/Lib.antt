@@ -15,6 +15,3 @@ pub mod Retracting
 pub mod Determined
 pub mod Ends
 pub mod Spared
-pub mod Keyed
-pub mod Stores
-pub mod DeliveryLoop

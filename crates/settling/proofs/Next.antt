@@ -28,15 +28,15 @@ abbrev dirtyAt : List Core → ℕ → Bool
 dirtyAt l k = (getD l k noCore) .message .dirty
 
 -- No box of the first m is dirty.
-abbrev pub Clean : List Core → ℕ → Type 0
-Clean l m = (k : ℕ) → k < m → dirtyAt l k ≡ false
+abbrev pub NoneDirty : List Core → ℕ → Type 0
+NoneDirty l m = (k : ℕ) → k < m → dirtyAt l k ≡ false
 
 -- ---- the first dirty box
 
 module _ (l : List Core) where
   data First (m w : ℕ) : Type 0 where
-    found : w < m → dirtyAt l w ≡ true → Clean l w → First m w
-    missed : w ≡ m → Clean l m → First m w
+    found : w < m → dirtyAt l w ≡ true → NoneDirty l w → First m w
+    missed : w ≡ m → NoneDirty l m → First m w
 
   first-cases : (m : ℕ) → First m (firstDirty l m)
   unfolding firstDirty
@@ -61,9 +61,9 @@ pub record Contest (s : Controller) (i k : ℕ) : Type 0 where
   pub above : currentPriority (coreAt s k) < (sourceAt s i) .priority
 
 pub data Next (s : Controller) : Type 0 where
-  resting : next s ≡ Rest → Clean (s .cores) (s .m) → NoneAbove s → Next s
+  resting : next s ≡ Rest → NoneDirty (s .cores) (s .m) → NoneAbove s → Next s
   retracting : (k : ℕ) → next s ≡ Retract (coreId k) → k < s .m → dirtyAt (s .cores) k ≡ true → Next s
-  arbitrating : (i k : ℕ) → next s ≡ Deliver (sourceId (suc i)) (coreId k) → Clean (s .cores) (s .m) → Contest s i k → Next s
+  arbitrating : (i k : ℕ) → next s ≡ Deliver (sourceId (suc i)) (coreId k) → NoneDirty (s .cores) (s .m) → Contest s i k → Next s
 
 abbrev pub topSource : Controller → ℕ
 topSource s = highest (s .sources) (s .n)
@@ -116,7 +116,7 @@ module _ (s : Controller) (some-source : 1 ≤ s .n) (some-core : 1 ≤ s .m) wh
 
 -- ---- the first dirty box is the next to be retracted
 
-module _ (s : Controller) (k : ℕ) (h : k < s .m) (clean : Clean (s .cores) k) (dirty : dirtyAt (s .cores) k ≡ true) where
+module _ (s : Controller) (k : ℕ) (h : k < s .m) (clean : NoneDirty (s .cores) k) (dirty : dirtyAt (s .cores) k ≡ true) where
   first-is : firstDirty (s .cores) (s .m) ≡ k
   first-is = go (first-cases (s .cores) (s .m)) (decLt w k) (decLt k w)
     where
@@ -135,7 +135,7 @@ module _ (s : Controller) (k : ℕ) (h : k < s .m) (clean : Clean (s .cores) k) 
 
 -- ---- with no box dirty, arbitration
 
-pub next-clean : (s : Controller) → Clean (s .cores) (s .m) → next s ≡ arbitrate s (topSource s) (lowCore s)
+pub next-clean : (s : Controller) → NoneDirty (s .cores) (s .m) → next s ≡ arbitrate s (topSource s) (lowCore s)
 unfolding next
 next-clean s clean = go (first-cases (s .cores) (s .m))
   where

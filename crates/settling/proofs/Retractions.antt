@@ -3,23 +3,22 @@
 --   dirtyBoxes s       how many boxes are dirty
 --   retractions-end    settling ends, with at most m retractions and m deliveries
 use Prim.Native.Nat.{ℕ, zero, suc, _+_, _*_, _<_, _≤_}
-use mathlib.Core.Path.{_≡_, ap}
+use mathlib.Core.Path.{_≡_}
 use mathlib.Core.Bool.{true, cond}
 use native.Mathlib.Omega.{arith}
 use native.Mathlib.Decide.{ℕ-discrete}
-use Rattle.model.specs.declared.MessageBox.{MessageBox}
 use Rattle.model.specs.declared.Controller.{Controller}
 use Rattle.model.specs.declared.Cycle.the-variants.{Retract}
 use Rattle.model.specs.Records.{coreId, coreAt}
 use Rattle.model.specs.Settling.{retract}
-use Rattle.lists.proofs.Bools.{clash, confirmed}
+use Rattle.lists.proofs.Bools.{clash}
 use Rattle.lists.proofs.Counting.{reached, reached-le, reached-more}
 use Rattle.model.specs.WellFormed.{Consistent}
 use Rattle.settling.specs.Phases.{AllDirty, Delivering, Ended}
 use Rattle.settling.proofs.Writes.{core-retract-same, core-retract-other}
 use Rattle.settling.proofs.Keeps.{retract-keeps, kept-n, kept-m}
 use Rattle.settling.proofs.Retract.{retract-consistent, retract-allDirty, retract-claimed}
-use Rattle.settling.proofs.Next.{Clean, Next, resting, retracting, arbitrating, next-cases}
+use Rattle.settling.proofs.Next.{NoneDirty, Next, resting, retracting, arbitrating, next-cases}
 use Rattle.settling.proofs.Run.{ended-step, ended-within}
 use Rattle.settling.proofs.Deliveries.{deliveries-end}
 
@@ -31,14 +30,10 @@ abbrev dirtyBoxes : Controller → ℕ
 dirtyBoxes s = reached (s .m) 1 (mark s)
 
 -- with no box dirty none is filled
-pub clean-delivering : {s : Controller} → AllDirty s → Clean (s .cores) (s .m) → Delivering s
+pub clean-delivering : {s : Controller} → AllDirty s → NoneDirty (s .cores) (s .m) → Delivering s
 clean-delivering all clean = record { clean = clean; covered = λ j k p q e. clash (all j p e) (clean j p) }
 
 module _ (s : Controller) (c : Consistent s) (k : ℕ) (h : k < s .m) (dirty : (coreAt s k) .message .dirty ≡ true) where
-  pub dirty-filled : (coreAt s k) .message .filled ≡ true
-  dirty-filled =
-      confirmed ((coreAt s k) .message .filled) (λ p. clash dirty (ap (λ (b : MessageBox). b .dirty) (c .empty-box k h p)))
-
   mark-retract : (j : ℕ) → 1 ≤ mark (retract s k) j → 1 ≤ mark s j
   mark-retract j p = go (ℕ-discrete j k)
     where
@@ -57,7 +52,7 @@ dirty-end : (f : ℕ) (s : Controller) → Consistent s → AllDirty s → dirty
 dirty-end zero s c all enough = absurd (omega (arith, c .some-core))
 dirty-end (suc f) s c all enough = go (next-cases s (c .some-source) (c .some-core)) (dirty-end f)
   where
-    delivered : Clean (s .cores) (s .m) → Ended s (suc f) (dirtyBoxes s) (s .m)
+    delivered : NoneDirty (s .cores) (s .m) → Ended s (suc f) (dirtyBoxes s) (s .m)
     delivered clean =
         ended-within (deliveries-end s c (clean-delivering all clean) (suc f) (omega arith)) (dirtyBoxes s) (s .m)
         (omega arith) (omega arith)

@@ -4,9 +4,9 @@
 --   next-filled-first    such a core gets the next delivery
 --   deliver-frugal       and the delivery keeps the last layer
 --   unfilled-frugal      with every filled box dirty and none dirty no box is filled
-use Prim.Native.Nat.{ℕ, zero, suc, _<_, _≤_}
-use mathlib.Core.Path.{_≡_, refl, sym, ap, _∙_}
-use mathlib.Core.Bool.{Bool, true, false, cond}
+use Prim.Native.Nat.{ℕ, zero, suc, _<_}
+use mathlib.Core.Path.{_≡_, sym, ap, _∙_}
+use mathlib.Core.Bool.{true, false}
 use native.Mathlib.Omega.{arith}
 use native.Mathlib.Decide.{ℕ-discrete}
 use Rattle.model.specs.declared.Core.{Core}
@@ -16,7 +16,7 @@ use Rattle.model.specs.declared.Cycle.the-variants.{Rest, Retract, Deliver}
 use Rattle.model.specs.Records.{sourceId, coreId, sourceAt, coreAt}
 use Rattle.model.specs.Requests.{currentPriority}
 use Rattle.model.specs.WellFormed.{Consistent, Clean, Frugal}
-use Rattle.model.specs.Settling.{deliver, retract, arbitrate, next, apply, isDelivery, cycle, settle}
+use Rattle.model.specs.Settling.{deliver, retract, arbitrate, next, isDelivery, cycle, settle}
 use Rattle.lists.proofs.Bools.{clash, Flag, on, off, flag}
 use Rattle.arbitration.proofs.LeastCore.{least-filled}
 use Rattle.settling.specs.Phases.{AllDirty, Delivering, Phase, retracting, delivering, Spared, PhasesSpare}

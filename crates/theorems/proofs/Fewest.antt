@@ -2,7 +2,7 @@
 -- No covered priority reaches the threshold that is one above the greatest of them, and every filled box does. So as many cores reach
 -- it as there are filled boxes, and besides those whose configured priority does; a placement that gives fewer requests falls short.
 use Prim.Native.Nat.{ℕ, suc, _+_, _<_, _≤_}
-use mathlib.Core.Path.{_≡_, _∙_, sym}
+use mathlib.Core.Path.{_≡_, sym}
 use mathlib.Core.Bool.{Bool, true, false, cond}
 use native.Mathlib.Omega.{arith}
 use lib.Dec.{ltb}

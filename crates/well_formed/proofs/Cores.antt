@@ -1,5 +1,5 @@
 -- One core in the pass over the cores: what is asked of it, and the same from the loop's tests. Assumes nothing.
---   CoreNames, core-fits-exact         what `core_in_range` tests; at the top priority, `core-names-exact`
+--   CoreNames, core-fits-exact         what `core_in_range` tests
 --   Backs, backs-exact                 what `is_backed` tests
 --   CoreSound s k, core-sound-exact    what is asked of core k, beside the cores before it
 --   cores-sound-exact                  the same of all cores, and the spare ones are reset
@@ -36,10 +36,6 @@ pub core-fits-exact : (n top : ℕ) (c : Core) → Exact (coreFits n top c) (Cor
 unfolding coreFits
 core-fits-exact n top c =
     core-exact top c and implies-exact (c .message .filled) (between-exact 1 n (c .message .source .0))
-
--- the same at the top priority, whatever names it
-pub core-names-exact : (n : ℕ) (c : Core) {top : ℕ} → top ≡ topPriority n → Exact (coreFits n top c) (CoreNames n (topPriority n) c)
-core-names-exact n c e = rw e (core-fits-exact n (topPriority n) c)
 
 abbrev pub Backs : Core → Source → Type 0
 Backs c r =

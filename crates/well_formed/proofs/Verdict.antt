@@ -3,7 +3,6 @@
 --   survey-refused          the survey of a state that isn't consistent
 --   cores-consistent        the pass over the cores tells whether they are sound
 --   survey-passes           the survey of a state whose cores are sound, from the two passes
---   survey-consistent       a survey tells whether the state is consistent
 --   greatest-le, greatest-lt, lowest-le, lowest-gt    the greatest and the least of a row
 --   well-formed-exact       and whether it is well formed: it is consistent and clean, nothing is above the least current priority, and
 --                           every covered priority is below every box's
@@ -91,10 +90,6 @@ module _ (s : Controller) where
   pub cores-consistent : (coresSurvey s) .consistent ≡ coresSound s
   unfolding coresSurvey
   cores-consistent = consistent-if (coresSound s) _ refl
-
-  pub survey-consistent : (surveyOf s) .consistent ≡ consistent s
-  unfolding surveyOf
-  survey-consistent = consistent-if (consistent s) _ refl
 
   pub survey-passes : consistent s ≡ bothSound s → coresSound s ≡ true →
       sourcesSurvey (coresSurvey s) (s .sources) (s .n) (topPriority (s .n)) ≡ surveyOf s

@@ -1,16 +1,14 @@
-// The sound-state test and its parts, on any record whatever: one pass over the cores, one over the sources.
-ghost use Prim.Native.Nat.{_≤_, min, max};
+// The sound-state test: what it asks of one record, whatever that holds; the passes over a state are in `on_bytes`.
+pub mod on_bytes;
+
+ghost use Prim.Native.Nat.{min, max};
 ghost use mathlib.Core.Path.{_≡_};
 ghost use mathlib.Core.Bool.{true};
-ghost use Rattle.model.specs.Records.{maxSources};
-ghost use Rattle.model.specs.Priorities.{topPriority};
 ghost use Rattle.lists.specs.Numbers.{between};
-ghost use Rattle.model.specs.WellFormed.{sizesInRange, isEmptyBox, isResetSource, isResetCore, consistent, wellFormed};
-ghost use Rattle.model.specs.Statements.{InRange};
-ghost use Rattle.well_formed.specs.Survey.{surveyWith, inconsistentSurvey, coveredPriority, boxedPriority, surveyOf};
-ghost use Rattle.well_formed.specs.Loops.{isIdle, coreFits, backs, withCore, coresSurvey, sourcesSurvey};
+ghost use Rattle.model.specs.WellFormed.{sizesInRange, isEmptyBox, isResetSource, isResetCore};
+ghost use Rattle.well_formed.specs.Survey.{surveyWith, inconsistentSurvey, coveredPriority, boxedPriority};
+ghost use Rattle.well_formed.specs.Loops.{isIdle, coreFits, backs, withCore};
 use model::CORES;
-use model::Controller;
 use model::Core;
 use model::MessageBox;
 use model::SOURCES;
@@ -205,7 +203,7 @@ fn found(clean: bool, lowest: u16, covered: u16, boxed: u16, waiting: u16) -> Su
     }
 }
 
-// ---- the passes
+// ---- one record more
 
 // What is found so far, with one core more.
 fn with_core(v: Surveyed, c: Core) -> Surveyed
@@ -219,136 +217,4 @@ fn with_core(v: Surveyed, c: Core) -> Surveyed
     let covered = greater(v.covered, covered_priority(c));
     let boxed = lesser(v.boxed, boxed_priority(c));
     found(clean, lowest, covered, boxed, v.waiting)
-}
-
-// The pass over the cores: those in use have priorities "0 to top" and boxes that are backed, each by a source of its own, and the others
-// are fresh. The loop over the spare records has no early answer, so that the compiler can test several at once.
-fn survey_cores(s: Controller, top: u16) -> Surveyed
-    requires { ⌜ InRange (s .n) (s .m) × (top ≡ topPriority (s .n)) ⌝ }
-    ensures { λ r. ⌜ r ≡ coresSurvey s ⌝ }
-{
-    let m = s.m as usize;
-    let mut seen = [false; SOURCES];
-    let mut v = found(true, records::current_priority(s.cores[0]), 0, UNBOXED, 0);
-    let mut k = 0;
-    while k < m {
-        let c = s.cores[k];
-        if !core_in_range(c, s.n, top) {
-            return inconsistent();
-        }
-        if c.message.filled {
-            let at = c.message.source.0 as usize - 1;
-            if seen[at] {
-                return inconsistent();
-            }
-            seen[at] = true;
-            if !is_backed(c, s.sources[at]) {
-                return inconsistent();
-            }
-        }
-        v = with_core(v, c);
-        k += 1;
-    }
-    let mut fresh = true;
-    while k < CORES {
-        if !is_reset_core(s.cores[k]) {
-            fresh = false;
-        }
-        k += 1;
-    }
-    if !fresh {
-        return inconsistent();
-    }
-    v
-}
-
-// The pass over the sources, with what the cores have shown: the first n have priorities "1 to top", and the others are fresh.
-// Each field is read where it is tested, which is cheaper than a copy of the record. The loop over the spare records has no early answer,
-// so that the compiler can test several at once.
-fn survey_sources(v: Surveyed, sources: [Source; SOURCES], n: usize, top: u16) -> Surveyed
-    requires { ⌜ n ≤ maxSources ⌝ }
-    ensures { λ r. ⌜ r ≡ sourcesSurvey v sources n top ⌝ }
-{
-    let mut waiting = 0u16;
-    let mut i = 0;
-    while i < n {
-        if !in_range(sources[i].configured, top) {
-            return inconsistent();
-        }
-        let p = sources[i].priority;
-        if sources[i].pending {
-            if !in_range(p, top) {
-                return inconsistent();
-            }
-            if waiting < p {
-                if records::is_candidate(sources[i]) {
-                    waiting = p;
-                }
-            }
-        } else {
-            if p != 0 {
-                return inconsistent();
-            }
-            if sources[i].delivered {
-                return inconsistent();
-            }
-        }
-        i += 1;
-    }
-    let mut fresh = true;
-    while i < SOURCES {
-        if !is_reset_source(sources[i]) {
-            fresh = false;
-        }
-        i += 1;
-    }
-    if !fresh {
-        return inconsistent();
-    }
-    found(v.clean, v.lowest, v.covered, v.boxed, waiting)
-}
-
-// One pass over a state. Sizes, ids and priorities may be anything that their fields can hold.
-pub fn survey(s: Controller) -> Surveyed
-    ensures { λ r. ⌜ r ≡ surveyOf s ⌝ }
-{
-    let n = s.n;
-    if !sizes_in_range(n, s.m) {
-        return inconsistent();
-    }
-    let top = records::top_priority(n) as u16;
-    let v = survey_cores(s, top);
-    if !v.consistent {
-        return inconsistent();
-    }
-    let sources = s.sources;
-    survey_sources(v, sources, n as usize, top)
-}
-
-// Whether a state's structure is right: document 01, "A sound state", without its clauses on dirty boxes and on what is delivered.
-pub fn is_consistent(s: Controller) -> bool
-    ensures { λ r. ⌜ r ≡ consistent s ⌝ }
-{
-    let v = survey(s);
-    v.consistent
-}
-
-// Whether a state is sound: document 01, "A sound state", with document 02's clause, request 2.
-pub fn well_formed(s: Controller) -> bool
-    ensures { λ r. ⌜ r ≡ wellFormed s ⌝ }
-{
-    let v = survey(s);
-    if !v.consistent {
-        return false;
-    }
-    if !v.clean {
-        return false;
-    }
-    if v.lowest < v.waiting {
-        return false;
-    }
-    if v.lowest < v.covered {
-        return false;
-    }
-    v.covered < v.boxed
 }

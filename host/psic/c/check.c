@@ -127,6 +127,11 @@ static void lent_records(void) {
     expect(psic_highest_in(sources, 0).position == 0, "an empty list has none");
     found = psic_highest_in(sources, 129);
     expect(found.number == PSIC_BAD_SIZE && found.position == 0, "129 records: 2");
+    psic_ranged ranged = psic_ranges_in(sources, 3);
+    expect(ranged.number == PSIC_OK && ranged.ranges == 4, "a masked record and two candidates: the list, its left pair, and each of the two");
+    expect(psic_ranges_in(sources, 0).ranges == 0, "no range of an empty list");
+    ranged = psic_ranges_in(sources, 129);
+    expect(ranged.number == PSIC_BAD_SIZE && ranged.ranges == 0, "129 records: 2, and no range");
     psic_core core = {1, {true, false, {7}, 3}};
     psic_claimed taken = psic_claim_in_place(&core);
     expect(taken.number == PSIC_OK && taken.id.number == 7 && core.configured == 3 && !core.message.filled, "a lent record is claimed");

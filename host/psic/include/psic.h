@@ -30,8 +30,8 @@
 #include <stdint.h>
 
 /* The version of this header: ten thousand times the major number, a hundred times the minor one, and the patch. */
-#define PSIC_VERSION 20000u
-#define PSIC_VERSION_TEXT "2.0.0"
+#define PSIC_VERSION 20100u
+#define PSIC_VERSION_TEXT "2.1.0"
 
 /* The largest sizes: "n sources, 1 to 128", "m cores, 1 to 32". */
 #define PSIC_MAX_SOURCES 128u
@@ -166,6 +166,12 @@ typedef struct {
     uint16_t position;
 } psic_found;
 
+/* The answer of the count of the ranges that this search looks into: a psic_number, and how many, 0 with a refusal. */
+typedef struct {
+    uint8_t number;
+    uint16_t ranges;
+} psic_ranged;
+
 /* The answer of the claim of a lent record: a psic_number, and the claimed id. */
 typedef struct {
     uint8_t number;
@@ -198,6 +204,7 @@ PSIC_ASSERT_SIZE(psic_source, 8);
 PSIC_ASSERT_SIZE(psic_message_box, 6);
 PSIC_ASSERT_SIZE(psic_core, 8);
 PSIC_ASSERT_SIZE(psic_found, 4);
+PSIC_ASSERT_SIZE(psic_ranged, 4);
 PSIC_ASSERT_SIZE(psic_claimed, 4);
 PSIC_ASSERT_SIZE(psic_report, 16);
 PSIC_ASSERT_SIZE(psic_state, PSIC_STATE_SIZE);
@@ -221,6 +228,11 @@ uint64_t psic_run(uint8_t *state, size_t state_len, const uint8_t *list, size_t 
 
 /* The first highest candidate of a lent list of at most 128 records, whatever they hold; a longer one is refused by 2. */
 psic_found psic_highest_in(const psic_source *list, size_t list_len);
+
+/* How many ranges of the comparator tree over such a list that search looks into: those with a candidate in them. The tree halves the
+ * list until one record is left, and an odd range's left half is the larger. With d the least number for which 2^d is at least list_len,
+ * they are at most d + 1 for each candidate. A list of over 128 records is refused by 2. */
+psic_ranged psic_ranges_in(const psic_source *list, size_t list_len);
 
 /* The claim of one lent core record: 1 if it is filled and its id isn't 1 to 128, or its box priority isn't 1 to 511 or isn't above the
  * configured one, or it is dirty; 7 if it is empty. */

@@ -1,4 +1,4 @@
-//! The two calls on records that a host keeps in tables of its own.
+//! The calls on records that a host keeps in tables of its own.
 
 use crate::answer::Refusal;
 use crate::raw;
@@ -17,6 +17,26 @@ pub fn highest_in(list: &[Source]) -> Result<Option<usize>, Refusal> {
     let found = raw::highest_in(list);
     match found.number {
         0 => Ok(usize::from(found.position).checked_sub(1)),
+        number => Err(Refusal::answered(number)),
+    }
+}
+
+/// How many ranges of the comparator tree over such a list [`highest_in`] looks into: those with a candidate in them. The tree halves
+/// the list until one record is left, and an odd range's left half is the larger. With d the least number for which 2^d is at least the
+/// list's length, they are at most d + 1 for each candidate.
+///
+/// ```
+/// use psic::{ranges_in, Source};
+/// let waiting = Source { configured: 1, masked: false, pending: true, delivered: false, priority: 3 };
+/// let idle = Source { pending: false, priority: 0, ..waiting };
+/// assert_eq!(ranges_in(&[waiting, idle, idle]), Ok(3));
+/// assert_eq!(ranges_in(&[idle, idle, waiting]), Ok(2));
+/// assert_eq!(ranges_in(&[]), Ok(0));
+/// ```
+pub fn ranges_in(list: &[Source]) -> Result<u16, Refusal> {
+    let ranged = raw::ranges_in(list);
+    match ranged.number {
+        0 => Ok(ranged.ranges),
         number => Err(Refusal::answered(number)),
     }
 }

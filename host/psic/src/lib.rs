@@ -3,7 +3,7 @@
 //!
 //! - [`Controller`] owns a state: make it, put commands to it, read it.
 //! - [`read`] gives the commands of a recording, and [`replay`] puts them to a fresh controller; [`recording`] says more.
-//! - [`highest_in`] and [`claim_in_place`] work on records that a host keeps in tables of its own.
+//! - [`highest_in`], [`ranges_in`] and [`claim_in_place`] work on records that a host keeps in tables of its own.
 //! - [`bytes`] has the calls on a state as bytes in memory of the host's own, [`raw`] the library's calls with their numbers.
 //!
 //! Every call ends and answers, whatever it is given. A refused one leaves everything as it was. The library allocates nothing, keeps
@@ -28,7 +28,7 @@ pub use answer::{Answer, Refusal, ANSWER_SIZE};
 pub use bytes::STATE_SIZE;
 pub use command::{Command, ParseCommandError, COMMAND_SIZE};
 pub use controller::Controller;
-pub use lent::{claim_in_place, highest_in};
+pub use lent::{claim_in_place, highest_in, ranges_in};
 pub use recording::{read, replay, Fault, FaultKind, Reading, Replay, Stamped};
 pub use records::{Core, CoreId, MessageBox, Owner, Source, SourceId, MAX_CORES, MAX_SOURCES};
 

@@ -17,6 +17,16 @@ pub struct Found {
     pub position: u16,
 }
 
+/// The answer of the count of the ranges that this search looks into.
+#[repr(C)]
+#[derive(Clone, Copy, Debug, PartialEq, Eq)]
+pub struct Ranged {
+    /// Document 01's number, 0 for success.
+    pub number: u8,
+    /// How many ranges, 0 with a refusal.
+    pub ranges: u16,
+}
+
 /// The answer of the claim of a lent record.
 #[repr(C)]
 #[derive(Clone, Copy, Debug, PartialEq, Eq)]
@@ -40,6 +50,7 @@ pub struct Report {
 }
 
 const _: () = assert!(size_of::<Found>() == 4 && size_of::<Claimed>() == 4);
+const _: () = assert!(size_of::<Ranged>() == 4);
 const _: () = assert!(size_of::<Report>() == 16);
 
 extern "C" {
@@ -55,6 +66,7 @@ extern "C" {
         answers_len: usize,
     ) -> u64;
     fn psic_highest_in(list: *const Source, list_len: usize) -> Found;
+    fn psic_ranges_in(list: *const Source, list_len: usize) -> Ranged;
     fn psic_claim_in_place(core: *mut Core) -> Claimed;
     fn psic_read(
         text: *const u8,
@@ -113,6 +125,12 @@ pub fn run(state: &mut [u8], list: &[u8], answers: &mut [u8]) -> u64 {
 pub fn highest_in(list: &[Source]) -> Found {
     // SAFETY: pointer and length are those of a slice of records in C's layout, whose bools hold 0 or 1.
     unsafe { psic_highest_in(list.as_ptr(), list.len()) }
+}
+
+/// How many ranges of the comparator tree over a lent list that search looks into.
+pub fn ranges_in(list: &[Source]) -> Ranged {
+    // SAFETY: pointer and length are those of a slice of records in C's layout, whose bools hold 0 or 1.
+    unsafe { psic_ranges_in(list.as_ptr(), list.len()) }
 }
 
 /// The claim of a lent record.

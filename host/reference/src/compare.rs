@@ -4,9 +4,9 @@ use std::fmt;
 
 use crate::damage;
 use crate::generate::{self, History, Mix};
-use crate::model::Model;
+use crate::model::{Model, Ran};
 use crate::random::Random;
-use crate::records::{Answer, Command, Controller, Core, MessageBox, Source};
+use crate::records::{Answer, Command, Controller, Core, Listed, MessageBox, Source};
 use crate::well_formed::violated;
 
 /// A call that both models were put to.
@@ -21,10 +21,12 @@ pub enum Call {
     },
     /// One command.
     Execute(Command),
-    /// A list of commands in one call.
-    Run(Vec<Command>),
+    /// A list in one call.
+    Run(Vec<Listed>),
     /// The search over a lent list.
     HighestIn(Vec<Source>),
+    /// The ranges that this search looks into.
+    RangesIn(Vec<Source>),
     /// The claim of a lent record.
     ClaimInPlace(Core),
 }
@@ -44,7 +46,8 @@ pub struct Difference {
     pub left: (String, Answer),
     /// The other model's name and answer.
     pub right: (String, Answer),
-    /// Whether the states or records handed back are equal, as wholes.
+    /// Whether what was handed back besides these answers is equal, as a whole: states or records, and of a list how many commands it
+    /// took and how many answers it wrote.
     pub same_state: bool,
     /// The fields in which they differ, with both values. For the reader alone: what isn't listed here differs all the same.
     pub fields: Vec<String>,
@@ -111,6 +114,19 @@ impl HandedBack {
         }
     }
 
+    /// The states after a list, the commands taken and the answers written.
+    fn lists(left: (&Controller, &Ran), right: (&Controller, &Ran)) -> HandedBack {
+        let mut fields = Fields::default();
+        let written = |ran: &Ran| ran.answers.len();
+        fields.field("commands taken", left.1.taken, right.1.taken);
+        fields.field("answers written", written(left.1), written(right.1));
+        let states = HandedBack::states(left.0, right.0);
+        HandedBack {
+            equal: states.equal && fields.differing.is_empty(),
+            fields: [fields.differing, states.fields].concat(),
+        }
+    }
+
     fn cores(left: &Core, right: &Core) -> HandedBack {
         let mut fields = Fields::default();
         fields.core("core", left, right);
@@ -123,16 +139,19 @@ impl HandedBack {
 
 impl<L: Model, R: Model> Comparison<'_, L, R> {
     /// Runs the whole workload that the seed determines: makings of any sizes, a history of this
-    /// length by single commands and as one list, broken states made from its end, and lent records.
+    /// length by single commands and as one list, broken states made from its end, lists from there
+    /// and from such states, and lent records.
     pub fn round(&self, length: usize) -> Option<Difference> {
         let mut random = Random::new(self.seed);
         let (n, m) = generate::sizes(&mut random);
         let mix = random.pick(&Mix::ALL);
         let history = generate::history(random.bits(), n, m, length, mix);
+        let end = generate::final_state(&history);
         self.makings(&mut random)
             .or_else(|| self.history(&history))
             .or_else(|| self.list(&history))
-            .or_else(|| self.broken_states(&mut random, &generate::final_state(&history)))
+            .or_else(|| self.broken_states(&mut random, &end))
+            .or_else(|| self.lists(&mut random, &end))
             .or_else(|| self.borrowed_records(&mut random))
     }
 
@@ -173,7 +192,21 @@ impl<L: Model, R: Model> Comparison<'_, L, R> {
     /// Runs one list from a state, sound or not.
     pub fn list_from(&self, state: &Controller, commands: &[Command]) -> Option<Difference> {
         let part = &format!("list at n = {}, m = {}", state.n, state.m);
-        self.run(Place { part, index: 0 }, state, commands)
+        self.run(Place { part, index: 0 }, state, &listed(commands))
+    }
+
+    /// Puts lists of several lengths, whole ones and ones with a number above 7 in them, to a sound state and to states made from it that
+    /// violate each clause.
+    pub fn lists(&self, random: &mut Random, sound: &Controller) -> Option<Difference> {
+        let broken = damage::violated_singly(random, sound);
+        let broken = broken.into_iter().map(|(_, state)| state);
+        let mut states = std::iter::once(sound.clone()).chain(broken).enumerate();
+        states.find_map(|(index, state)| {
+            let part = &format!("lists on a state that violates {:?}", violated(&state));
+            let lists = generate::lists_from(random, sound);
+            let mut lists = lists.iter();
+            lists.find_map(|list| self.run(Place { part, index }, &state, list))
+        })
     }
 
     /// Puts one command of each kind, and all of them as a list, to broken states made from a sound one.
@@ -188,18 +221,27 @@ impl<L: Model, R: Model> Comparison<'_, L, R> {
                 let mut right = self.right.load(&state);
                 self.execute(place, &mut left, &mut right, command)
             });
-            single.or_else(|| self.run(place, &state, &commands))
+            single.or_else(|| self.run(place, &state, &listed(&commands)))
         })
     }
 
-    /// Puts both lent forms to 64 records each, of any content.
+    /// Puts the lent forms to 64 lists and records, of any content.
     pub fn borrowed_records(&self, random: &mut Random) -> Option<Difference> {
         let part = "lent records";
         (0..64).find_map(|index| {
             let sources = generate::borrowed_sources(random);
             let core = generate::borrowed_core(random);
-            self.highest_in(Place { part, index }, &sources)
+            self.lent_list(Place { part, index }, &sources)
                 .or_else(|| self.claim_in_place(Place { part, index }, core))
+        })
+    }
+
+    /// Puts both forms on a lent list to lists of every length up to a little over the longest.
+    pub fn lists_of_every_length(&self, random: &mut Random) -> Option<Difference> {
+        (0..=130).find_map(|length| {
+            let part = &format!("lists of {length}");
+            let mut lists = generate::lists_of(random, length).into_iter().enumerate();
+            lists.find_map(|(index, list)| self.lent_list(Place { part, index }, &list))
         })
     }
 
@@ -240,34 +282,45 @@ impl<L: Model, R: Model> Comparison<'_, L, R> {
     }
 
     /// A list from this state, in one call each. A difference shows the first answers that differ.
-    fn run(&self, place: Place, from: &Controller, commands: &[Command]) -> Option<Difference> {
+    fn run(&self, place: Place, from: &Controller, list: &[Listed]) -> Option<Difference> {
         let (mut left, mut right) = (self.left.load(from), self.right.load(from));
-        let left_answers = self.left.run(&mut left, commands);
-        let right_answers = self.right.run(&mut right, commands);
-        assert_eq!(left_answers.len(), commands.len(), "an answer for each");
-        assert_eq!(right_answers.len(), commands.len(), "an answer for each");
-        let mut pairs = left_answers.into_iter().zip(right_answers);
+        let left_ran = self.left.run_listed(&mut left, list);
+        let right_ran = self.right.run_listed(&mut right, list);
+        let mut pairs = left_ran.answers.iter().zip(&right_ran.answers);
         let last = without_cycles((0, 0));
-        let (left_answer, right_answer) = pairs
+        let (&left_answer, &right_answer) = pairs
             .find(|(left, right)| left != right)
-            .unwrap_or((last, last));
+            .unwrap_or((&last, &last));
         self.difference(
             place,
-            || Call::Run(commands.to_vec()),
+            || Call::Run(list.to_vec()),
             left_answer,
             right_answer,
-            HandedBack::states(&self.left.read(&left), &self.right.read(&right)),
+            HandedBack::lists(
+                (&self.left.read(&left), &left_ran),
+                (&self.right.read(&right), &right_ran),
+            ),
         )
     }
 
-    fn highest_in(&self, place: Place, sources: &[Source]) -> Option<Difference> {
-        self.difference(
+    fn lent_list(&self, place: Place, sources: &[Source]) -> Option<Difference> {
+        let highest = self.difference(
             place,
             || Call::HighestIn(sources.to_vec()),
             without_cycles(self.left.highest_in(sources)),
             without_cycles(self.right.highest_in(sources)),
             HandedBack::NOTHING,
-        )
+        );
+        let ranges = || {
+            self.difference(
+                place,
+                || Call::RangesIn(sources.to_vec()),
+                without_cycles(self.left.ranges_in(sources)),
+                without_cycles(self.right.ranges_in(sources)),
+                HandedBack::NOTHING,
+            )
+        };
+        highest.or_else(ranges)
     }
 
     fn claim_in_place(&self, place: Place, lent: Core) -> Option<Difference> {
@@ -305,6 +358,10 @@ impl<L: Model, R: Model> Comparison<'_, L, R> {
             fields: handed_back.fields,
         })
     }
+}
+
+fn listed(commands: &[Command]) -> Vec<Listed> {
+    commands.iter().copied().map(Listed::Command).collect()
 }
 
 fn without_cycles((number, id): (u8, u16)) -> Answer {

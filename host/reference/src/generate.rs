@@ -4,7 +4,8 @@ use std::ops::RangeInclusive;
 
 use crate::random::Random;
 use crate::records::{
-    Command, Controller, Core, CoreNumber, MessageBox, Source, SourceId, MAX_PRIORITY, MAX_SOURCES,
+    Command, Controller, Core, CoreNumber, Listed, MessageBox, Source, SourceId, MAX_PRIORITY,
+    MAX_SOURCES,
 };
 use crate::reference::{self, top_priority};
 
@@ -61,6 +62,41 @@ pub fn final_state(history: &History) -> Controller {
         reference::execute(&mut controller, command);
     }
     controller
+}
+
+/// The commands of a history that goes on from a sound state.
+pub fn commands_from(seed: u64, sound: &Controller, length: usize, mix: Mix) -> Vec<Command> {
+    let mut generator = Generator::going_on(seed, sound.clone(), mix);
+    (0..length).map(|_| generator.command()).collect()
+}
+
+/// Lists for a sound state, or one made from it: of no command, of one, of two and of 3 to 40, each
+/// once whole, and once with a number above 7 in the place of a command.
+pub fn lists_from(random: &mut Random, sound: &Controller) -> Vec<Vec<Listed>> {
+    let many = usize::from(random.within(3..=40));
+    let mut lists = Vec::new();
+    for length in [0, 1, 2, many] {
+        let mix = random.pick(&Mix::ALL);
+        let commands = commands_from(random.bits(), sound, length, mix);
+        let list: Vec<Listed> = commands.into_iter().map(Listed::Command).collect();
+        if let Some(place) = random.pick_if_any(0..length) {
+            let mut ended = list.clone();
+            ended[place] = unreadable(random, sound);
+            lists.push(ended);
+        }
+        lists.push(list);
+    }
+    lists
+}
+
+/// A number above 7, often one with a command's low bits; what stands beside it is mostly in range.
+fn unreadable(random: &mut Random, sound: &Controller) -> Listed {
+    let any = random.within(8..=255) as u8;
+    Listed::Unreadable {
+        number: random.pick(&[8, 8 + any % 8, 128 + any % 8, 255, any]),
+        at: random.within(0..=sound.n),
+        priority: random.within(0..=top_priority(sound.n)),
+    }
 }
 
 /// Sizes in range; the smallest, the largest and the ones where the top priority changes come
@@ -123,6 +159,55 @@ pub fn borrowed_sources(random: &mut Random) -> Vec<Source> {
             request: random.within(0..=spread),
         })
         .collect()
+}
+
+/// Lists of one length to lend: no candidate, one, few, half, all but one, all; each at priorities
+/// that are all 0, and at any.
+pub fn lists_of(random: &mut Random, length: usize) -> Vec<Vec<Source>> {
+    let mut lists = Vec::new();
+    for spread in [0, u16::MAX] {
+        let mut chosen = vec![vec![false; length], vec![true; length]];
+        if length > 0 {
+            for all in [false, true] {
+                let mut one = vec![all; length];
+                one[random.below(length)] = !all;
+                chosen.push(one);
+            }
+        }
+        for times in [2, 16] {
+            chosen.push((0..length).map(|_| random.one_in(times)).collect());
+        }
+        lists.extend(
+            chosen
+                .iter()
+                .map(|chosen| list_with(random, chosen, spread)),
+        );
+    }
+    lists
+}
+
+/// A list whose candidates are those that are chosen; the others are idle, masked or delivered.
+fn list_with(random: &mut Random, chosen: &[bool], spread: u16) -> Vec<Source> {
+    let record = |&candidate: &bool| {
+        let flags = [
+            [false, true, false],
+            [false, false, false],
+            [true, true, false],
+            [false, true, true],
+        ];
+        let [masked, pending, delivered] = match candidate {
+            true => flags[0],
+            false => random.pick(&flags[1..]),
+        };
+        Source {
+            configured: random.any(),
+            masked,
+            pending,
+            delivered,
+            request: random.within(0..=spread),
+        }
+    };
+    chosen.iter().map(record).collect()
 }
 
 /// A core record to lend, whatever it holds. Most are filled and near a good one.
@@ -243,20 +328,25 @@ struct Generator {
 
 impl Generator {
     fn new(seed: u64, n: u16, m: u16, mix: Mix) -> Generator {
-        let mut random = Random::new(seed);
-        let palette = palette(&mut random, top_priority(n));
-        let mut opening = Vec::new();
+        let mut generator = Generator::going_on(seed, Controller::reset(n, m), mix);
         if mix != Mix::Even {
-            for id in (1..=n).map(SourceId).filter(|_| !random.one_in(8)) {
-                opening.push(Command::Unmask(id));
-            }
+            let random = &mut generator.random;
+            let unmasked = (1..=n).map(SourceId).filter(|_| !random.one_in(8));
+            generator.opening = unmasked.map(Command::Unmask).collect();
         }
+        generator
+    }
+
+    /// Goes on from a sound state.
+    fn going_on(seed: u64, controller: Controller, mix: Mix) -> Generator {
+        let mut random = Random::new(seed);
+        let palette = palette(&mut random, top_priority(controller.n));
         Generator {
             random,
-            controller: Controller::reset(n, m),
+            controller,
             mix,
             palette,
-            opening,
+            opening: Vec::new(),
         }
     }
 

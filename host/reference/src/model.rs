@@ -1,7 +1,16 @@
 //! What every model of the controller offers, so that one workload runs through any of them.
 
-use crate::records::{Answer, Command, Controller, Core, Source};
+use crate::records::{Answer, Command, Controller, Core, Listed, Source};
 use crate::reference;
+
+/// What a list leaves besides the state.
+#[derive(Clone, Debug, PartialEq, Eq)]
+pub struct Ran {
+    /// How many commands were taken.
+    pub taken: u64,
+    /// Every answer that was written.
+    pub answers: Vec<Answer>,
+}
 
 /// A model of the controller. It holds its state in a form of its own.
 pub trait Model {
@@ -23,6 +32,15 @@ pub trait Model {
         commands.iter().map(execute).collect()
     }
 
+    /// Runs a list up to the first entry that is no command: what comes before it, unless the model has a call for it.
+    fn run_listed(&self, state: &mut Self::State, list: &[Listed]) -> Ran {
+        let commands: Vec<Command> = list.iter().map_while(|entry| entry.command()).collect();
+        Ran {
+            taken: commands.len() as u64,
+            answers: self.run(state, &commands),
+        }
+    }
+
     /// Takes over a state as it is, sound or not.
     fn load(&self, controller: &Controller) -> Self::State;
 
@@ -31,6 +49,9 @@ pub trait Model {
 
     /// The search over a lent list: number, then position plus one or 0.
     fn highest_in(&self, sources: &[Source]) -> (u8, u16);
+
+    /// The ranges that this search looks into: number, then how many.
+    fn ranges_in(&self, sources: &[Source]) -> (u8, u16);
 
     /// The claim of a lent core record: number and id.
     fn claim_in_place(&self, core: &mut Core) -> (u8, u16);
@@ -65,6 +86,10 @@ impl Model for Reference {
 
     fn highest_in(&self, sources: &[Source]) -> (u8, u16) {
         reference::highest_in(sources)
+    }
+
+    fn ranges_in(&self, sources: &[Source]) -> (u8, u16) {
+        reference::ranges_in(sources)
     }
 
     fn claim_in_place(&self, core: &mut Core) -> (u8, u16) {

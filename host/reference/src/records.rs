@@ -212,6 +212,32 @@ pub enum Command {
     Complete(SourceId),
 }
 
+/// An entry of a list as a host hands it over.
+#[derive(Clone, Copy, Debug, PartialEq, Eq, Hash)]
+pub enum Listed {
+    /// One of the eight commands.
+    Command(Command),
+    /// A number above 7, which names no command and ends the list, and the numbers beside it.
+    Unreadable {
+        /// What stands for the command, 8 to 255.
+        number: u8,
+        /// What stands for the id or the core.
+        at: u16,
+        /// What stands for the priority.
+        priority: u16,
+    },
+}
+
+impl Listed {
+    /// The command, if it is one.
+    pub fn command(self) -> Option<Command> {
+        match self {
+            Listed::Command(command) => Some(command),
+            Listed::Unreadable { .. } => None,
+        }
+    }
+}
+
 /// What a command answers.
 #[derive(Clone, Copy, Debug, PartialEq, Eq, Hash)]
 pub struct Answer {

@@ -238,6 +238,27 @@ pub fn highest_in(sources: &[Source]) -> (u8, u16) {
     (0, position)
 }
 
+/// How many ranges of the comparator tree over a lent list the search looks into: those with a
+/// candidate in them (request 3/14). A list longer than 128 is refused by 2, with 0.
+pub fn ranges_in(sources: &[Source]) -> (u8, u16) {
+    if sources.len() > MAX_SOURCES {
+        return (Refusal::Size.number(), 0);
+    }
+    (0, ranges_with_a_candidate(sources))
+}
+
+/// A range is halved until one source is left, and an odd range's left half is the larger.
+fn ranges_with_a_candidate(range: &[Source]) -> u16 {
+    if !range.iter().any(Source::is_candidate) {
+        return 0;
+    }
+    if range.len() == 1 {
+        return 1;
+    }
+    let (left, right) = range.split_at(range.len().div_ceil(2));
+    1 + ranges_with_a_candidate(left) + ranges_with_a_candidate(right)
+}
+
 /// Claims one core record that the host lends in place, with the effect and answer of claim.
 /// A refusal answers id 0 and leaves the record as lent.
 pub fn claim_in_place(core: &mut Core) -> (u8, u16) {

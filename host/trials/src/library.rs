@@ -1,9 +1,9 @@
 //! The proved library as a model of the reference's trait.
 
-use psic::{raw, ANSWER_SIZE, STATE_SIZE};
-use psic_reference::model::Model;
+use psic::{raw, ANSWER_SIZE, COMMAND_SIZE, STATE_SIZE};
+use psic_reference::model::{Model, Ran};
 use psic_reference::records::{
-    Answer, Command, Controller, Core, CoreNumber, MessageBox, Source, SourceId,
+    Answer, Command, Controller, Core, CoreNumber, Listed, MessageBox, Source, SourceId,
 };
 
 const SOURCES_FROM: usize = 4;
@@ -38,18 +38,32 @@ impl Model for Library {
         run_list(state, commands)
     }
 
+    fn run_listed(&self, state: &mut Vec<u8>, list: &[Listed]) -> Ran {
+        let list: Vec<u8> = list.iter().flat_map(|&entry| entry_bytes(entry)).collect();
+        run_bytes(state, &list)
+    }
+
     fn load(&self, controller: &Controller) -> Vec<u8> {
         bytes_of(controller)
     }
 
+    /// The bytes are those of the state, so that comparing states compares all bytes.
     fn read(&self, state: &Vec<u8>) -> Controller {
-        controller_of(state)
+        let controller = controller_of(state);
+        assert!(bytes_of(&controller) == *state, "{state:?}");
+        controller
     }
 
     fn highest_in(&self, sources: &[Source]) -> (u8, u16) {
         let list: Vec<psic::Source> = sources.iter().map(lent_source).collect();
         let found = raw::highest_in(&list);
         (found.number, found.position)
+    }
+
+    fn ranges_in(&self, sources: &[Source]) -> (u8, u16) {
+        let list: Vec<psic::Source> = sources.iter().map(lent_source).collect();
+        let ranged = raw::ranges_in(&list);
+        (ranged.number, ranged.ranges)
     }
 
     fn claim_in_place(&self, core: &mut Core) -> (u8, u16) {
@@ -60,16 +74,36 @@ impl Model for Library {
     }
 }
 
-/// The proved library, a whole list in one call.
+/// The proved library, a whole list of commands in one call.
 pub fn run_list(state: &mut [u8], commands: &[Command]) -> Vec<Answer> {
     let list: Vec<u8> = commands
         .iter()
         .flat_map(|&command| encoded(command))
         .collect();
-    let mut answers = vec![0; ANSWER_SIZE * commands.len()];
-    let taken = raw::run(state, &list, &mut answers);
-    assert_eq!(taken, commands.len() as u64, "every command can be read");
-    answers.chunks_exact(ANSWER_SIZE).map(answer_of).collect()
+    let ran = run_bytes(state, &list);
+    let count = commands.len();
+    assert_eq!((ran.taken, ran.answers.len()), (count as u64, count));
+    ran.answers
+}
+
+/// What the answers' bytes hold before a list is run. No answer has such a number.
+const PATTERN: u8 = 0xc3;
+
+/// A list in one call, entries of 5 bytes: the count, and the answers up to the last one that was counted or written.
+pub fn run_bytes(state: &mut [u8], list: &[u8]) -> Ran {
+    let count = list.len() / COMMAND_SIZE;
+    let mut answers = vec![[PATTERN; ANSWER_SIZE]; count];
+    let taken = raw::run(state, list, answers.as_flattened_mut());
+    let written = answers
+        .iter()
+        .rposition(|answer| *answer != [PATTERN; ANSWER_SIZE]);
+    let written = written.map_or(0, |last| last + 1);
+    let counted = usize::try_from(taken).map_or(count, |taken| taken.min(count));
+    let answers = &answers[..written.max(counted)];
+    Ran {
+        taken,
+        answers: answers.iter().map(|answer| answer_of(answer)).collect(),
+    }
 }
 
 /// A command's number, the id or core, and the priority.
@@ -91,6 +125,21 @@ pub fn encoded(command: Command) -> [u8; 5] {
     let (number, at, priority) = numbers(command);
     let ([a, b], [c, d]) = (at.to_le_bytes(), priority.to_le_bytes());
     [number as u8, a, b, c, d]
+}
+
+/// The bytes of an entry of a list.
+pub fn entry_bytes(entry: Listed) -> [u8; COMMAND_SIZE] {
+    match entry {
+        Listed::Command(command) => encoded(command),
+        Listed::Unreadable {
+            number,
+            at,
+            priority,
+        } => {
+            let ([a, b], [c, d]) = (at.to_le_bytes(), priority.to_le_bytes());
+            [number, a, b, c, d]
+        }
+    }
 }
 
 /// The command of these bytes, of which the first is at most 7.

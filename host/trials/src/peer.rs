@@ -494,6 +494,11 @@ impl Model for Peer {
     }
 
     /// No part of this model.
+    fn ranges_in(&self, sources: &[Source]) -> (u8, u16) {
+        Reference.ranges_in(sources)
+    }
+
+    /// No part of this model.
     fn claim_in_place(&self, core: &mut Core) -> (u8, u16) {
         Reference.claim_in_place(core)
     }

@@ -78,6 +78,14 @@ impl Model for Wrapper {
         }
     }
 
+    fn ranges_in(&self, sources: &[Source]) -> (u8, u16) {
+        let list: Vec<psic::Source> = sources.iter().map(lent_source).collect();
+        match psic::ranges_in(&list) {
+            Ok(ranges) => (0, ranges),
+            Err(refusal) => (refusal.number(), 0),
+        }
+    }
+
     fn claim_in_place(&self, core: &mut Core) -> (u8, u16) {
         let mut lent = lent_core(core);
         let claimed = psic::claim_in_place(&mut lent);

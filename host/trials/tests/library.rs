@@ -1,6 +1,7 @@
 //! The proved library, and the typed wrapper over it, do what the independent model does: call by call, in whole lists, from sound and
 //! broken states, and on lent records.
 
+mod lists;
 mod peer;
 mod recordings;
 mod slips;
@@ -48,6 +49,26 @@ fn the_typed_wrapper_agrees_with_the_reference() {
     }
 }
 
+/// Position and ranges of lent lists of 0 to 130 records, from no candidate to all.
+#[test]
+fn lists_of_every_length_agree_with_the_reference() {
+    fn compare<M: Model>(model: &M, seed: u64) {
+        let comparison = Comparison {
+            left: &Reference,
+            right: model,
+            seed,
+        };
+        let difference = comparison.lists_of_every_length(&mut Random::new(seed));
+        if let Some(difference) = difference {
+            panic!("{difference}");
+        }
+    }
+    for seed in run_seeds(20) {
+        compare(&Library, seed);
+        compare(&Wrapper, seed);
+    }
+}
+
 /// So that what the library's speed is compared with does the same work.
 #[test]
 fn the_fast_model_agrees_with_the_reference() {
@@ -63,7 +84,11 @@ fn every_slip_of_the_library_is_found() {
         let library = with_slip(slip, || first_difference(&Library, 4, 100));
         assert!(library.is_some(), "{slip:?}");
         let wrapper = with_slip(slip, || first_difference(&Wrapper, 4, 100));
-        assert!(wrapper.is_some(), "{slip:?}, by the wrapper");
+        assert_eq!(
+            wrapper.is_none(),
+            slip.is_behind(),
+            "{slip:?}, by the wrapper"
+        );
     }
 }
 

@@ -1,12 +1,11 @@
 -- `exports::psic_execute` meets its contract: bytes that encode no state and numbers that name no command are refused, and past both
 -- tests the command runs on the state that the bytes encode. Assumes nothing.
-use borrow.Author.Needs.{needs}
 use borrow.Author.Tests.{not-true, not-false}
-use mathlib.Core.Path.{_≡_, sym, _∙_}
+use mathlib.Core.Path.{_≡_, refl, sym, _∙_}
 use mathlib.Core.Bool.{true}
 use Rattle.layout.specs.Bytes.{isState}
-use Rattle.exports.proofs.Buffers.{state-size}
-use Rattle.exports.proofs.Calls.{bad-number, bad-bytes, execute-answered}
+use Rattle.exports.proofs.Calls.{bad-number, bad-bytes, execute-went}
+use borrow.Author.Needs.{needs}
 use Rattle.exports.proofs.psic_execute.Statement.{statement}
 use Rattle.exports.proofs.psic_execute.Tie as tie
 
@@ -35,18 +34,11 @@ enum-told c = search needs
 enum-known-c : tie.Need-enum-known-c
 enum-known-c c = search needs
 
-state-from-requires : tie.Need-state-from-requires
-state-from-requires c κs =
-    let tested = c .before .before .before .before .before in
-    state-size (tested .before .before .before .before .args .state .now) (readable tested)
+begin-requires : tie.Need-begin-requires
+begin-requires c κs = (readable (c .before .before .before .before .before .before .before), refl, refl)
 
-execute-requires : tie.Need-execute-requires
-execute-requires c κs = search needs
-
-put-state-requires : tie.Need-put-state-requires
-put-state-requires c κs =
-    let tested = c .before .before .before .before .before .before .before .before .before in
-    state-size (tested .before .before .before .before .args .state .now) (readable tested)
+step-requires : tie.Need-step-requires
+step-requires c κs = search needs
 
 packed-requires : tie.Need-packed-requires
 packed-requires c κs = search needs
@@ -67,16 +59,11 @@ same-length-3 c = search needs
 
 returns-3 : tie.Need-returns-3
 returns-3 c =
-    let put = c .before .before .before .put-state in
-    let run = c .before .before .before .before .before .before in
-    let given = run .before .state-from in
-    let known = run .before .before .before .before in
-    let called = known .before .before in
+    let called = c .before .before .before .before .before .before .before .before .before .before .before .before .before .before in
     let tested = called .before in
     let a = tested .before .before .before .before .args in
-    execute-answered (a .number) (a .at) (a .priority) (a .state .now) (called .command .result) (readable tested)
-    (called .command .ensures) (c .packed .result) (put .last .0) (given .result) _ (run .execute .result) (known .c .given .1)
-    (given .ensures) (run .execute .ensures) (c .packed .ensures) (put .ensures)
+    execute-went (a .number) (a .at) (a .priority) (a .state .now) (called .command .result) (readable tested) (called .command .ensures)
+    (c .before .before .before .before .before .before .before .before .before .before .before .before .c .given .1) (c .before .before .before .step .ensures) (c .packed .ensures)
 
 pub psic-execute-spec : {M : Type 1} → statement M
 psic-execute-spec =
@@ -88,9 +75,8 @@ psic-execute-spec =
     command-requires
     enum-told
     enum-known-c
-    state-from-requires
-    execute-requires
-    put-state-requires
+    begin-requires
+    step-requires
     packed-requires
     same-length-2
     returns-2

@@ -1,44 +1,42 @@
 -- `exports::psic_run` meets its contract. The loop's invariant is `RunTo`: the commands before i are taken, and what is left of the list
--- ends as the whole does from the start. The measure is what is left of the length. Assumes nothing.
+-- ends as the whole does from the start; and the state in the bytes can go on. The measure is what is left of the length. Assumes nothing.
 use Prim.Native.Nat.{_-_}
 use lib.ListN.{length}
 use borrow.Author.Needs.{needs}
 use native.Mathlib.Omega.{arith}
-use mathlib.Core.Path.{_≡_, sym, _∙_}
+use mathlib.Core.Path.{_≡_, refl, sym, _∙_}
 use mathlib.Core.List.{[]}
 use mathlib.Core.Bool.{true}
 use mathlib.Core.Logic.{⊎-elim}
 use borrow.Author.Tests.{not-true, not-false}
 use Rattle.model.specs.declared.Decoded.the-variants.{Unknown}
-use Rattle.layout.specs.Bytes.{isState}
+use Rattle.layout.specs.Bytes.{isState, stateFrom}
+use Rattle.steps.specs.Going.{Going}
+use Rattle.steps.proofs.Gone.{state-size}
 use Rattle.exports.proofs.Commands.{command-read, commands-there, commands-end}
-use Rattle.exports.proofs.Buffers.{state-size, no-state, not-whole, no-room}
+use Rattle.exports.proofs.Buffers.{no-state, not-whole, no-room}
 use Rattle.exports.proofs.Calls.{run-refused}
-use Rattle.exports.proofs.Running.{left, RunTo, run-none, more-left, run-more, run-all}
+use Rattle.exports.proofs.Running.{left, RunTo, run-none, more-left, run-went, run-all}
 use Rattle.exports.proofs.psic_run.Statement.{statement}
 use Rattle.exports.proofs.psic_run.Tie as tie
 
 abbrev Inv-loop : tie.InvT-loop
-Inv-loop state list answers₀ s₀ i₀ answers s i = RunTo list answers₀ s₀ answers s i
+Inv-loop state₀ list answers₀ keys₀ ranks₀ sound i₀ state answers keys ranks i = RunTo list answers₀ (stateFrom state₀) answers (stateFrom state) i × Going sound state keys ranks
 
 abbrev μ-loop : tie.MeasureT-loop
-μ-loop state list answers₀ s₀ i₀ answers s i = length list - i
+μ-loop state₀ list answers₀ keys₀ ranks₀ sound i₀ state answers keys ranks i = length list - i
 
 -- past the tests, the bytes encode a state
-readable :
-    (c : tie.Else3 Inv-loop μ-loop) →
-    isState (c .before .before .before .before .before .before .before .before .args .state .now) ≡ true
+readable : (c : tie.Else3 Inv-loop μ-loop) → isState (c .before .before .before .before .before .before .before .before .args .state .now) ≡ true
 readable c = let is = c .before .is-state in sym (is .ensures) ∙ not-false (is .result) (c .if3 .left)
 
 -- past the loop, no command is left: the list has ended, or the next bytes name none
 none-left :
-    (c : tie.Left-loop Inv-loop μ-loop) →
-    left (c .before .before .before .before .before .before .before .before .before .before .before .before .args .list .now)
-    (c .before .loop .i) ≡ []
+    (c : tie.Left-loop Inv-loop μ-loop) → left (c .before .before .before .before .before .before .before .before .before .before .before .before .before .before .args .list .now) (c .before .loop .i) ≡ []
 none-left c =
-    let a = c .before .before .before .before .before .before .before .before .before .before .before .before .args in
+    let a = c .before .before .before .before .before .before .before .before .before .before .before .before .before .before .args in
     let l = c .before .loop in
-    let whole = more-left (a .list .now) (a .answers .now) (c .before .before .state-from .result) (l .answers) (l .s) (l .i) (l .inv) in
+    let whole = more-left (a .list .now) (a .answers .now) (stateFrom (a .state .now)) (l .answers) (stateFrom (l .state)) (l .i) (l .inv .0) in
     ⊎-elim (λ w. commands-end (a .list .now) (l .i) (w .left))
     (λ w.
     let read = command-read (a .list .now) (l .i) (w .2 .result) (w .3 .result) (w .4 .result)
@@ -71,15 +69,13 @@ returns-3 c =
     run-refused (a .state .now) (a .list .now) (a .answers .now)
     (no-state (a .state .now) (a .list .now) (a .answers .now) (sym (is .ensures) ∙ not-true (is .result) (c .if3 .taken)))
 
-state-from-requires : tie.Need-state-from-requires Inv-loop μ-loop
-state-from-requires c κs =
-    state-size (c .before .before .before .before .before .before .before .before .before .args .state .now) (readable (c .before))
+begin-requires : tie.Need-begin-requires Inv-loop μ-loop
+begin-requires c κs = (readable (c .before .before .before), refl, refl)
 
 loop-holds : tie.Need-loop-holds Inv-loop μ-loop
 loop-holds c =
-    let a = c .before .before .before .before .before .before .before .before .before .before .args in
-    let tested = c .before .before .before .before .before in
-    run-none (a .list .now) (a .answers .now) (c .state-from .result) (tested .before .if1 .left) (tested .if2 .left)
+    let a = c .before .before .before .before .before .before .before .before .before .before .before .before .args in
+    (run-none (a .list .now) (a .answers .now) (stateFrom (a .state .now)) (c .before .before .before .before .before .before .before .before .if1 .left) (c .before .before .before .before .before .before .before .if2 .left), c .begin .ensures)
 
 shared-slice-read-command : tie.Need-shared-slice-read-command Inv-loop μ-loop
 shared-slice-read-command c = omega arith
@@ -108,60 +104,49 @@ enum-told c = search needs
 enum-known-read : tie.Need-enum-known-read Inv-loop μ-loop
 enum-known-read c = search needs
 
-execute-requires : tie.Need-execute-requires Inv-loop μ-loop
-execute-requires c κs = search needs
+step-requires : tie.Need-step-requires Inv-loop μ-loop
+step-requires c κs = c .before .before .before .before .before .before .before .before .before .before .before .loop .inv .1
 
 put-answer-requires : tie.Need-put-answer-requires Inv-loop μ-loop
 put-answer-requires c κs = search needs
 
 add-i : tie.Need-add-i Inv-loop μ-loop
 add-i c =
-    let turn = c .before .before .before .before .before .before .before .before .before .before .before .before .before in
+    let turn = c .before .before .before .before .before .before .before .before .before .before .before .before .before .before .before .before .before in
     let at = turn .before in
-    let start = at .before .before .before .before .before .before .before .before .before .before .before in
-    omega (arith, turn .loop-test .taken, at .loop .inv .whole, at .loop .inv .place, start .good)
+    omega (arith, turn .loop-test .taken, at .loop .inv .0 .whole, at .loop .inv .0 .place, at .before .before .before .before .before .before .before .before .before .before .before .before .before .good)
 
 loop-less : tie.Need-loop-less Inv-loop μ-loop
 loop-less c = omega arith
 
 loop-again : tie.Need-loop-again Inv-loop μ-loop
 loop-again c =
-    let put = c .before .before .before .put-answer in
-    let run = c .before .before .before .before .before in
-    let known = run .before .before in
-    let called = known .before .before in
+    let put = c .before .before .put-answer in
+    let done = c .before .before .before .before .before .before in
+    let called = c .before .before .before .before .before .before .before .before .before .before .before .before .before in
+    let turn = c .before .before .before .before .before .before .before .before .before .before .before .before .before .before .before .before .before in
+    let a = turn .before .before .before .before .before .before .before .before .before .before .before .before .before .before .args in
+    let l = turn .before .loop in
     let priority = called .before .word-at2 in
     let target = called .before .before .word-at in
-    let turn = called .before .before .before .before in
-    let at = turn .before in
-    let a = at .before .before .before .before .before .before .before .before .before .before .before .args in
-    let l = at .loop in
     let read = command-read (a .list .now) (l .i) (target .result) (priority .result) (called .command .result)
-    (target .ensures) (priority .ensures) (called .command .ensures) in
-    run-more (a .list .now) (a .answers .now) (at .before .state-from .result) (l .answers) (put .last .0) (l .s) (l .i)
-    _ (run .execute .result) (l .inv) (turn .loop-test .taken) (read ∙ known .read .given .1) (run .execute .ensures) (put .ensures)
-
-put-state-requires : tie.Need-put-state-requires Inv-loop μ-loop
-put-state-requires c κs =
-    let tested = c .before .before .before .before .before in
-    state-size (tested .before .before .before .before .before .before .before .before .args .state .now) (readable tested)
+    (target .ensures) (priority .ensures) (called .command .ensures) in (
+      run-went (l .state) _ (l .inv .0) (turn .loop-test .taken) (read ∙ c .before .before .before .before .before .before .before .before .before .before .before .read .given .1) (done .step .ensures) (put .ensures),
+      done .step .ensures .going,
+    )
 
 same-length-2 : tie.Need-same-length-2 Inv-loop μ-loop
-same-length-2 c = omega arith
+same-length-2 c = c .before .loop .inv .1 .size ∙ sym (state-size (c .before .before .before .before .before .before .before .before .before .before .before .before .before .before .args .state .now) (readable (c .before .before .before .before .before .before)))
 
 same-length-3 : tie.Need-same-length-3 Inv-loop μ-loop
 same-length-3 c = omega arith
 
 returns-4 : tie.Need-returns-4 Inv-loop μ-loop
 returns-4 c =
-    let put = c .before .before .put-state in
-    let end = c .before .before .before .before in
-    let l = end .before .loop in
-    let given = end .before .before in
-    let tested = given .before .before in
-    let a = tested .before .before .before .before .before .before .before .before .args in
-    run-all (a .state .now) (a .list .now) (a .answers .now) (given .state-from .result) (l .answers) (put .last .0) (l .s) (l .i)
-    (readable tested) (given .state-from .ensures) (l .inv) (none-left end) (put .ensures)
+    let a = c .before .before .before .before .before .before .before .before .before .before .before .before .before .before .args in
+    let l = c .before .loop in
+    run-all (a .state .now) (a .list .now) (a .answers .now) (stateFrom (a .state .now)) (l .answers) (l .state) (stateFrom (l .state)) (l .i)
+    (readable (c .before .before .before .before .before .before)) refl (l .inv .0) (none-left c) (l .inv .1 .whole)
 
 pub psic-run-spec : {M : Type 1} → statement M
 psic-run-spec =
@@ -174,7 +159,7 @@ psic-run-spec =
     is-state-requires
     same-length
     returns-3
-    state-from-requires
+    begin-requires
     loop-holds
     shared-slice-read-command
     cast-command
@@ -185,12 +170,11 @@ psic-run-spec =
     command-requires
     enum-told
     enum-known-read
-    execute-requires
+    step-requires
     put-answer-requires
     add-i
     loop-less
     loop-again
-    put-state-requires
     same-length-2
     same-length-3
     returns-4)

@@ -1,9 +1,13 @@
-//! The two lent forms.
+//! The lent forms.
+
+use std::collections::HashSet;
 
 use psic_reference::generate::{self, Mix};
 use psic_reference::random::{run_seed, Random};
 use psic_reference::records::{Command, Core, MessageBox, Source};
-use psic_reference::reference::{claim_in_place, execute, highest_candidate, highest_in};
+use psic_reference::reference::{
+    claim_in_place, execute, highest_candidate, highest_in, ranges_in,
+};
 
 use crate::histories::random_histories;
 
@@ -83,6 +87,86 @@ fn search_agrees_with_arbitration_on_every_state() {
         let expected = highest_candidate(sources).map_or(0, |id| id.0);
         assert_eq!(highest_in(sources), (0, expected), "seed {}", history.seed);
     }
+}
+
+/// The ranges on the path from the whole list down to one record, each by its start and its length.
+fn path(length: usize, position: usize) -> Vec<(usize, usize)> {
+    let (mut start, mut length) = (0, length);
+    let mut ranges = vec![(start, length)];
+    while length > 1 {
+        let left = length - length / 2;
+        if position < start + left {
+            length = left;
+        } else {
+            (start, length) = (start + left, length - left);
+        }
+        ranges.push((start, length));
+    }
+    ranges
+}
+
+/// The least d with 2^d at least the length.
+fn depth(length: usize) -> usize {
+    (0..).find(|&d| 1 << d >= length).expect("there is one")
+}
+
+fn ranges(sources: &[Source]) -> usize {
+    let (number, ranges) = ranges_in(sources);
+    assert_eq!(number, 0);
+    usize::from(ranges)
+}
+
+#[test]
+fn ranges_looked_into_are_those_on_the_paths_to_candidates() {
+    let mut random = Random::new(run_seed());
+    for length in 0..=128 {
+        for sources in generate::lists_of(&mut random, length) {
+            let candidates = (0..length).filter(|&position| sources[position].is_candidate());
+            let paths: HashSet<_> = candidates.flat_map(|at| path(length, at)).collect();
+            assert_eq!(ranges(&sources), paths.len(), "{sources:?}");
+        }
+    }
+}
+
+#[test]
+fn ranges_looked_into_are_at_most_d_plus_1_for_each_candidate() {
+    let mut random = Random::new(run_seed());
+    for length in 0..=128 {
+        for sources in generate::lists_of(&mut random, length) {
+            let candidates = sources.iter().filter(|source| source.is_candidate());
+            let candidates = candidates.count();
+            assert!(ranges(&sources) <= (depth(length) + 1) * candidates);
+            assert_eq!(ranges(&sources) == 0, candidates == 0);
+        }
+        let all = vec![candidate(3); length];
+        assert_eq!(ranges(&all), (2 * length).saturating_sub(1));
+    }
+}
+
+/// With 2^d records every path has d + 1 ranges, so that the bound is reached.
+#[test]
+fn bound_of_the_ranges_is_reached() {
+    for d in 0..=7 {
+        for position in 0..1 << d {
+            let mut sources = vec![Source::RESET; 1 << d];
+            sources[position] = candidate(0);
+            assert_eq!(ranges(&sources), d + 1);
+        }
+    }
+}
+
+#[test]
+fn ranges_at_the_edges() {
+    let idle = Source::RESET;
+    let two_of_five = [candidate(0), idle, idle, idle, candidate(3)];
+    assert_eq!(ranges_in(&[]), (0, 0));
+    assert_eq!(ranges_in(&[idle]), (0, 0));
+    assert_eq!(ranges_in(&[candidate(0)]), (0, 1));
+    assert_eq!(ranges_in(&[idle, idle, candidate(9)]), (0, 2));
+    assert_eq!(ranges_in(&[candidate(9), idle, idle]), (0, 3));
+    assert_eq!(ranges_in(&two_of_five), (0, 6));
+    assert_eq!(ranges_in(&[candidate(9); 128]), (0, 255));
+    assert_eq!(ranges_in(&[candidate(9); 129]), (2, 0));
 }
 
 #[test]

@@ -3,7 +3,7 @@
 use psic_reference::compare::{Call, Comparison, Difference};
 use psic_reference::generate::{self, History, Mix};
 use psic_reference::model::{Model, Reference};
-use psic_reference::random::run_seeds;
+use psic_reference::random::{run_seed, run_seeds, Random};
 
 use crate::faulty::{Fault, Faulty, Field};
 use crate::histories::{run_of_request_2, set_core, trigger, unmask};
@@ -66,6 +66,23 @@ fn every_wrong_tie_is_found() {
     for fault in Fault::TIES {
         let found = first_difference(&Faulty { fault }, 60);
         assert!(found.is_some(), "{fault:?}");
+    }
+}
+
+/// Request 3/14's count, on the lent records of a round and on lists of every length.
+#[test]
+fn every_wrong_count_is_found() {
+    for fault in Fault::COUNTS {
+        let found = first_difference(&Faulty { fault }, 60);
+        let call = found.map(|difference| difference.call);
+        assert!(matches!(call, Some(Call::RangesIn(_))), "{fault:?}");
+        let comparison = Comparison {
+            left: &Reference,
+            right: &Faulty { fault },
+            seed: run_seed(),
+        };
+        let found = comparison.lists_of_every_length(&mut Random::new(comparison.seed));
+        assert!(found.is_some(), "{fault:?}, lists of every length");
     }
 }
 

@@ -59,6 +59,18 @@ pub enum Fault {
     ClaimsDirtyRecords,
     RefusedClaimEmptiesTheRecord,
     ClaimedRecordIsDirty,
+    // Counts of the ranges looked into that request 3/14 rules out.
+    /// The search stops at pairs, and so does the count.
+    CountsNoSingleSources,
+    /// A half without a candidate is counted, and not looked into.
+    CountsSkippedRanges,
+    CountsTheRightHalfLarger,
+    CountSkipsPriority0,
+    /// The tree is over 128 sources, whatever the list's length.
+    CountsOver128,
+    /// At most d for each candidate, not d + 1.
+    CountsAtMostTheDepth,
+    CountsLongLists,
     // What demand 3 alone can tell.
     Reports2mPlus1Cycles,
     BoxNamesAnIdleSource,
@@ -157,12 +169,23 @@ impl Fault {
         Fault::ClauseOfBoxesBefore,
     ];
 
+    /// Wrong counts of the ranges that the search over a lent list looks into.
+    pub const COUNTS: [Fault; 7] = [
+        Fault::CountsNoSingleSources,
+        Fault::CountsSkippedRanges,
+        Fault::CountsTheRightHalfLarger,
+        Fault::CountSkipsPriority0,
+        Fault::CountsOver128,
+        Fault::CountsAtMostTheDepth,
+        Fault::CountsLongLists,
+    ];
+
     /// Of the wrong clauses one refuses sound states; the others take broken ones.
     pub fn is_too_strict(self) -> bool {
         self == Fault::ClauseOfTheLeastCurrent
     }
 
-    /// All faults but the ties, the clauses, the forgotten ones and the written fields.
+    /// All faults but the ties, the clauses, the counts, the forgotten ones and the written fields.
     pub const ALL: [Fault; 25] = [
         Fault::AtLeast,
         Fault::OnlyWrittenBoxDirty,
@@ -457,6 +480,34 @@ impl Model for Faulty {
         }
     }
 
+    fn ranges_in(&self, sources: &[Source]) -> (u8, u16) {
+        let (number, ranges) = reference::ranges_in(sources);
+        if number != 0 && !self.has(Fault::CountsLongLists) {
+            return (number, ranges);
+        }
+        let candidates = sources.iter().filter(|source| source.is_candidate());
+        let candidates = candidates.count() as u16;
+        let depth = sources.len().next_power_of_two().trailing_zeros() as u16;
+        let count = match self.fault {
+            Fault::CountsNoSingleSources => ranges - candidates,
+            Fault::CountsAtMostTheDepth => ranges.min(depth * candidates),
+            Fault::CountsOver128 => {
+                let mut all = sources.to_vec();
+                all.resize(128, Source::RESET);
+                reference::ranges_in(&all).1
+            }
+            Fault::CountSkipsPriority0 => {
+                let above_0 = |source: &Source| source.is_candidate() && source.request > 0;
+                counted(sources, &above_0, Half::Left)
+            }
+            Fault::CountsTheRightHalfLarger => counted(sources, &Source::is_candidate, Half::Right),
+            Fault::CountsSkippedRanges => with_skipped(sources),
+            Fault::CountsLongLists => counted(sources, &Source::is_candidate, Half::Left),
+            _ => ranges,
+        };
+        (0, count)
+    }
+
     fn claim_in_place(&self, core: &mut Core) -> (u8, u16) {
         if self.has(Fault::ClaimsDirtyRecords) {
             core.message.dirty = false;
@@ -470,4 +521,36 @@ impl Model for Faulty {
         }
         answer
     }
+}
+
+/// Which half of an odd range is the larger.
+#[derive(Clone, Copy)]
+enum Half {
+    Left,
+    Right,
+}
+
+/// The ranges of a tree that hold a record of which the test holds.
+fn counted(range: &[Source], test: &impl Fn(&Source) -> bool, larger: Half) -> u16 {
+    if !range.iter().any(test) {
+        return 0;
+    }
+    if range.len() == 1 {
+        return 1;
+    }
+    let middle = match larger {
+        Half::Left => range.len().div_ceil(2),
+        Half::Right => range.len() / 2,
+    };
+    let (left, right) = range.split_at(middle);
+    1 + counted(left, test, larger) + counted(right, test, larger)
+}
+
+/// The ranges that are looked into, and those that are skipped on the way.
+fn with_skipped(range: &[Source]) -> u16 {
+    if range.len() <= 1 || !range.iter().any(Source::is_candidate) {
+        return range.len().min(1) as u16;
+    }
+    let (left, right) = range.split_at(range.len().div_ceil(2));
+    1 + with_skipped(left) + with_skipped(right)
 }

@@ -6,7 +6,8 @@
 //! Each text is read, one in four also replayed, and the totals are printed by number.
 //!
 //! Each round of commands runs, from one printed seed, makings of any sizes, a history by single commands and as a list, one command of
-//! each kind and all of them as a list on broken states made from its end, and lent records. The first difference ends a run with status 1.
+//! each kind and all of them as a list on broken states made from its end, lists of several lengths from its end and from such states, and
+//! lent records. The first difference ends a run with status 1.
 
 use std::time::{SystemTime, UNIX_EPOCH};
 

@@ -80,6 +80,10 @@ impl Model for Fast {
         reference::highest_in(sources)
     }
 
+    fn ranges_in(&self, sources: &[records::Source]) -> (u8, u16) {
+        reference::ranges_in(sources)
+    }
+
     fn claim_in_place(&self, core: &mut records::Core) -> (u8, u16) {
         reference::claim_in_place(core)
     }

@@ -4,10 +4,10 @@
 
 use std::cell::Cell;
 
-use psic::raw::{Claimed, Found, Report};
+use psic::raw::{Claimed, Found, Ranged, Report};
 use psic::{Core, Source, ANSWER_SIZE, COMMAND_SIZE, STATE_SIZE};
 
-/// What of a call's answer is altered, if the call was accepted.
+/// What of a call's answer is altered, if the call was accepted; or, where its name says so, if a list's start was unsound.
 #[derive(Clone, Copy, Debug, PartialEq, Eq)]
 pub enum Slip {
     MakeNumber,
@@ -19,8 +19,16 @@ pub enum Slip {
     RunNumber,
     RunCycles,
     RunState,
+    /// The count of a list that a number above 7 ends is one more.
+    RunCount,
+    RunBehindAnswers,
+    RunStateOfUnsoundStart,
+    /// The second answer, and not the first.
+    RunNumberOfUnsoundStart,
     SearchNumber,
     SearchPosition,
+    RangesNumber,
+    RangesCount,
     ClaimNumber,
     ClaimId,
     ClaimRecord,
@@ -42,7 +50,7 @@ pub enum Slip {
 
 impl Slip {
     /// Of the calls on a state and on lent records.
-    pub const OF_COMMANDS: [Slip; 14] = [
+    pub const OF_COMMANDS: [Slip; 20] = [
         Slip::MakeNumber,
         Slip::MakeState,
         Slip::ExecuteNumber,
@@ -52,8 +60,14 @@ impl Slip {
         Slip::RunNumber,
         Slip::RunCycles,
         Slip::RunState,
+        Slip::RunCount,
+        Slip::RunBehindAnswers,
+        Slip::RunStateOfUnsoundStart,
+        Slip::RunNumberOfUnsoundStart,
         Slip::SearchNumber,
         Slip::SearchPosition,
+        Slip::RangesNumber,
+        Slip::RangesCount,
         Slip::ClaimNumber,
         Slip::ClaimId,
         Slip::ClaimRecord,
@@ -77,9 +91,11 @@ impl Slip {
         Slip::ReplayBehindAnswers,
     ];
 
-    /// Whether the slip is in memory that the typed functions don't hand out.
+    /// Whether the slip is in memory that the typed functions don't hand out, or in lists that they don't hand in.
     pub fn is_behind(self) -> bool {
         let behind = [
+            Slip::RunCount,
+            Slip::RunBehindAnswers,
             Slip::ReadBehindCommands,
             Slip::ReadBehindTimes,
             Slip::ReplayStateOfRefusedSizes,
@@ -123,6 +139,7 @@ extern "C" {
         answers_len: usize,
     ) -> u64;
     fn __real_psic_highest_in(list: *const Source, list_len: usize) -> Found;
+    fn __real_psic_ranges_in(list: *const Source, list_len: usize) -> Ranged;
     fn __real_psic_claim_in_place(core: *mut Core) -> Claimed;
     fn __real_psic_read(
         text: *const u8,
@@ -207,14 +224,25 @@ unsafe extern "C" fn __wrap_psic_run(
     // SAFETY: the arguments are passed on as they came; the buffers of a call that took commands are a state's and theirs.
     unsafe {
         let taken = __real_psic_run(state, state_len, list, list_len, answers, answers_len);
+        let ended = taken != u64::MAX && COMMAND_SIZE * (taken as usize) < list_len;
+        if ended && slips(Slip::RunCount) {
+            return taken + 1;
+        }
         if taken == 0 || taken == u64::MAX {
             return taken;
         }
-        let last = answers.add(ANSWER_SIZE * (taken as usize - 1));
+        let behind = answers.add(ANSWER_SIZE * taken as usize);
+        let last = behind.sub(ANSWER_SIZE);
+        let unsound = *answers == 1;
         match SLIP.get() {
             Some(Slip::RunState) => flip_last(state),
             Some(Slip::RunNumber) => *last = if *last == 0 { 8 } else { 0 },
             Some(Slip::RunCycles) if *last == 0 => *last.add(3) += 1,
+            Some(Slip::RunBehindAnswers) if ended => *behind = 0,
+            Some(Slip::RunStateOfUnsoundStart) if unsound => flip_last(state),
+            Some(Slip::RunNumberOfUnsoundStart) if unsound && taken > 1 => {
+                *answers.add(ANSWER_SIZE) = 0
+            }
             _ => {}
         }
         taken
@@ -232,6 +260,19 @@ unsafe extern "C" fn __wrap_psic_highest_in(list: *const Source, list_len: usize
         found.number = 2;
     }
     found
+}
+
+#[no_mangle]
+unsafe extern "C" fn __wrap_psic_ranges_in(list: *const Source, list_len: usize) -> Ranged {
+    // SAFETY: the arguments are passed on as they came.
+    let mut ranged = unsafe { __real_psic_ranges_in(list, list_len) };
+    if ranged.number == 0 && slips(Slip::RangesCount) {
+        ranged.ranges += 1;
+    }
+    if ranged.number == 0 && slips(Slip::RangesNumber) {
+        ranged.number = 2;
+    }
+    ranged
 }
 
 #[no_mangle]

@@ -1,0 +1,2 @@
+-- From what a step leaves to the answer of the definition.
+mod Answered

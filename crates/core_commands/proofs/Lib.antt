@@ -1,2 +1,0 @@
--- From the tests that the code makes to the answer of the definition.
-mod Cores
