@@ -18,21 +18,11 @@ use numbers::BAD_PRIORITY;
 use numbers::NOT_CLAIMED;
 use numbers::NOTHING_TO_CLAIM;
 
-// Whether x is 1 to top.
-pub fn one_to(top: u32, x: u16) -> bool
-    ensures { λ r. ⌜ r ≡ between 1 top x ⌝ }
-{
-    if x == 0 {
-        return false;
-    }
-    x as u32 <= top
-}
-
 // Whether the id is 1 to n.
 pub fn names_source(n: u16, id: SourceId) -> bool
     ensures { λ r. ⌜ r ≡ between 1 n (id .0) ⌝ }
 {
-    one_to(n as u32, id.0)
+    records::one_to(n as u32, id.0)
 }
 
 // Whether the core's number is 0 to m - 1.
@@ -46,7 +36,7 @@ pub fn names_core(m: u16, core: CoreId) -> bool
 pub fn is_source_priority(n: u16, p: u16) -> bool
     ensures { λ r. ⌜ r ≡ between 1 (topPriority n) p ⌝ }
 {
-    one_to(records::top_priority(n), p)
+    records::one_to(records::top_priority(n), p)
 }
 
 // The number for no of an action on a source's record r, 0 for none; claimed says whether its request is.

@@ -1,6 +1,7 @@
 // One record made, or read: what a command makes of a source or a core, and what is read off one.
 ghost use mathlib.Core.Path.{_≡_};
 ghost use Rattle.model.specs.Records.{sourceWith, withConfigured, withMask, withDelivered, opened as openedOf, ended as endedOf, boxWith, emptyBox, holding, coreWith, reset as resetOf, answer};
+ghost use Rattle.lists.specs.Numbers.{between};
 ghost use Rattle.model.specs.Priorities.{topPriority};
 ghost use Rattle.model.specs.Requests.{currentPriority, candidate};
 ghost use Rattle.model.specs.Arbitration.{rank as rankOf};
@@ -160,6 +161,16 @@ pub fn answer_with(state: Controller, number: u8, id: SourceId, cycles: u16) -> 
 }
 
 // ---- what is read off one record
+
+// Whether x is 1 to top.
+pub fn one_to(top: u32, x: u16) -> bool
+    ensures { λ r. ⌜ r ≡ between 1 top x ⌝ }
+{
+    if x == 0 {
+        return false;
+    }
+    x as u32 <= top
+}
 
 // The top priority, 2^(floor(log2 n) + 2) - 1, from the leading zeros of n.
 pub fn top_priority(n: u16) -> u32

@@ -53,10 +53,7 @@ pub fn sizes_in_range(n: u16, m: u16) -> bool
 fn in_range(p: u16, top: u16) -> bool
     ensures { λ r. ⌜ r ≡ between 1 top p ⌝ }
 {
-    if p == 0 {
-        return false;
-    }
-    p <= top
+    records::one_to(top as u32, p)
 }
 
 // Whether a box is blank: not filled, not dirty, id 0, priority 0.

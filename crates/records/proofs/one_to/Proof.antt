@@ -1,8 +1,8 @@
--- `checks::one_to` meets its contract: 0 is below 1, and the other test is the upper bound's. Assumes nothing.
+-- `records::one_to` meets its contract: 0 is below 1, and the other test is the upper bound's. Assumes nothing.
 use native.Mathlib.Omega.{arith}
 use borrow.Author.Tests.{le-leb}
-use Rattle.checks.proofs.one_to.Statement.{statement}
-use Rattle.checks.proofs.one_to.Tie as tie
+use Rattle.records.proofs.one_to.Statement.{statement}
+use Rattle.records.proofs.one_to.Tie as tie
 
 returns : tie.Need-returns
 returns c = rw (c .if1 .taken)
