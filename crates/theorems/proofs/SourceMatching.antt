@@ -2,18 +2,17 @@
 --   configured-matches, mask-matches, trigger-matches, redeliver-matches, complete-matches    for the source at index i, id i + 1
 use Prim.Native.Nat.{ℕ, suc, _<_}
 use mathlib.Core.Path.{_≡_, refl, sym, ap, _∙_}
-use mathlib.Core.Bool.{Bool, true, false, not, _&&_, cond}
+use mathlib.Core.Bool.{Bool, true, false}
 use native.Mathlib.Omega.{arith}
 use lib.ListN.{length}
 use Rattle.model.specs.declared.Source.{Source}
 use Rattle.model.specs.declared.Controller.{Controller}
 use Rattle.model.specs.Records.{noSource, sourceAt, withSource, withConfigured, withMask, withDelivered, opened, ended}
-use Rattle.model.specs.Requests.{boxed}
 use Rattle.model.specs.WellFormed.{WellFormed}
-use Rattle.model.specs.Ledger.{Ledger, Request, noRequest, openRequest, claimedRequest, priorityOf, writeConfigured, writeMask, writeRequest}
+use Rattle.model.specs.Ledger.{Ledger, Request, noRequest, openRequest, priorityOf, writeConfigured, writeMask, writeRequest}
 use Rattle.lists.specs.Rows.{write}
 use Rattle.lists.proofs.Writes.{read-kept, read-written}
-use Rattle.theorems.specs.Matches.{Matches}
+use Rattle.theorems.specs.Matches.{requestIn, Matches}
 use Rattle.theorems.proofs.Requests.{pending-priority}
 
 -- What the ledger pictures of the source at j.
@@ -22,13 +21,6 @@ configuredOf j r = r .configured
 
 abbrev maskedOf : ℕ → Source → Bool
 maskedOf j r = r .masked
-
--- the request that a record stands for, the cores being those of s
-abbrev requestIn : Controller → ℕ → Source → Request
-requestIn s j r =
-    cond (r .pending)
-    (cond (r .pending && r .delivered && not (boxed (s .cores) (s .m) (suc j))) (claimedRequest (r .priority)) (openRequest (r .priority)))
-    noRequest
 
 -- f pictures the first n sources of s
 abbrev Pictures : ℕ → Controller → {A : Type 0} → (ℕ → Source → A) → (ℕ → A) → Type 0

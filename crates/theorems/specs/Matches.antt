@@ -1,22 +1,27 @@
 -- The ledger as a picture of the state. Helpers of proofs; nothing here needs to be believed.
 use Prim.Native.Nat.{ℕ, suc, _<_}
 use mathlib.Core.Path.{_≡_}
-use mathlib.Core.Bool.{cond}
+use mathlib.Core.Bool.{not, _&&_, cond}
+use Rattle.model.specs.declared.Source.{Source}
 use Rattle.model.specs.declared.Controller.{Controller}
 use Rattle.model.specs.declared.Command.{Command}
 use Rattle.model.specs.Records.{sourceAt, coreAt}
-use Rattle.model.specs.Requests.{claimed}
+use Rattle.model.specs.Requests.{boxed}
 use Rattle.model.specs.Commands.{execute}
 use Rattle.model.specs.WellFormed.{WellFormed}
 use Rattle.model.specs.Ledger.{Ledger, Request, noRequest, openRequest, claimedRequest, post, entryOf}
 use Rattle.model.specs.Statements.{PriorityStrict}
 
--- The request of source i + 1 as the ledger would have it.
-abbrev pub requestOf : Controller → ℕ → Request
-requestOf s i =
-    cond ((sourceAt s i) .pending)
-    (cond (claimed s i) (claimedRequest ((sourceAt s i) .priority)) (openRequest ((sourceAt s i) .priority)))
+-- The request that the record r of source i + 1 stands for, as the ledger would have it, the cores being those of s.
+abbrev pub requestIn : Controller → ℕ → Source → Request
+requestIn s i r =
+    cond (r .pending)
+    (cond (r .pending && r .delivered && not (boxed (s .cores) (s .m) (suc i))) (claimedRequest (r .priority)) (openRequest (r .priority)))
     noRequest
+
+-- Of the state's own record; the test is whether the request is claimed.
+abbrev pub requestOf : Controller → ℕ → Request
+requestOf s i = requestIn s i (sourceAt s i)
 
 pub record Matches (n m : ℕ) (b : Ledger) (s : Controller) : Type 0 where
   pub n-same : s .n ≡ n
