@@ -1,5 +1,5 @@
 -- The first of the least cores and of the highest candidates, by numbers that hold key and place. Assumes nothing.
---   SoFar, so-far-one, -taken, -left, -all    a walk for the least or the greatest: one number, one more that is taken or left, the end
+--   SoFar, so-far-none, -taken, -left, -all    a walk for the least or the greatest: no number yet, one more that is taken or left, the end
 --   least-told                      the least number of the cores tells the least core and its current priority
 --   Told, highest-told              the greatest number of the sources tells whether the highest candidate interrupts a core, and which it is
 use Prim.Native.Nat.{ℕ, _+_, _*_, _-_, _%_, _<_, _≤_}
@@ -26,47 +26,41 @@ use Rattle.arbitration.proofs.LeastCore.{least-first}
 
 -- ---- a walk for the outermost
 
--- x is the outermost of the first k numbers, of n.
+-- x is the outermost of the first k numbers, of n; before the first turn, of one.
 pub record SoFar (R : ℕ → ℕ → Type 0) (ks : List ℕ) (n k x : ℕ) : Type 0 where
-  pub best : Outermost R ks k x
+  pub at : ℕ
+  pub inside : at < n
+  pub there : getD ks at 0 ≡ x
+  pub related : (i : ℕ) → i < k → R x (getD ks i 0)
   pub within : k ≤ n
 
 module _ (R : ℕ → ℕ → Type 0) (ks : List ℕ) (n : ℕ) where
-  pub so-far-one : R (getD ks 0 0) (getD ks 0 0) → 0 < n → SoFar R ks n 1 (getD ks 0 0)
-  so-far-one r h =
-      let only : (i : ℕ) → i < 1 → R (getD ks 0 0) (getD ks i 0)
-      = λ i g. let e : 0 ≡ i = omega arith in subst (λ (j : ℕ). R (getD ks 0 0) (getD ks j 0)) e r in
-      record { best = record { at = 0; inside = omega arith; there = refl; related = only }; within = omega arith }
+  pub so-far-none : 0 < n → SoFar R ks n 0 (getD ks 0 0)
+  so-far-none h = record { at = 0; inside = h; there = refl; related = λ i g. absurd (omega arith); within = omega arith }
 
   module _ {k x : ℕ} (p : SoFar R ks n k x) (h : k < n) where
     pub so-far-taken : R (getD ks k 0) (getD ks k 0) → ((z : ℕ) → R x z → R (getD ks k 0) z) → SoFar R ks n (k + 1) (getD ks k 0)
     so-far-taken r through =
         record {
-          best =
-              record {
-                at = k;
-                inside = omega arith;
-                there = refl;
-                related = below-more (λ (i : ℕ). R (getD ks k 0) (getD ks i 0)) k (λ i g. through _ (p .best .related i g)) r;
-              };
+          at = k;
+          inside = h;
+          there = refl;
+          related = below-more (λ (i : ℕ). R (getD ks k 0) (getD ks i 0)) k (λ i g. through _ (p .related i g)) r;
           within = omega arith;
         }
 
     pub so-far-left : R x (getD ks k 0) → SoFar R ks n (k + 1) x
     so-far-left r =
         record {
-          best =
-              record {
-                at = p .best .at;
-                inside = omega (arith, p .best .inside);
-                there = p .best .there;
-                related = below-more (λ (i : ℕ). R x (getD ks i 0)) k (p .best .related) r;
-              };
+          at = p .at;
+          inside = p .inside;
+          there = p .there;
+          related = below-more (λ (i : ℕ). R x (getD ks i 0)) k (p .related) r;
           within = omega arith;
         }
 
   pub so-far-all : {k x : ℕ} → SoFar R ks n k x → n ≤ k → Outermost R ks n x
-  so-far-all {k} {x} p h = let e : k ≡ n = omega (arith, p .within) in subst (λ (j : ℕ). Outermost R ks j x) e (p .best)
+  so-far-all p h = record { at = p .at; inside = p .inside; there = p .there; related = λ i g. p .related i (omega arith) }
 
 -- ---- the least core
 

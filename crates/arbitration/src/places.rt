@@ -61,13 +61,13 @@ pub fn priority_of(rank: u32) -> u32
     rank / RANK_STEP
 }
 
-// The least of the first m numbers.
+// The least of the first m numbers. The first is looked at twice, so that as many are left as the compiler takes at a time.
 pub fn lowest(keys: &[u32; CORES], m: usize) -> u32
     requires { ⌜ (0 < m) × (m ≤ maxCores) ⌝ }
     ensures { λ x. ⌜ LowestOf (now (keys .entry)) m x ⌝ }
 {
     let mut least = keys[0];
-    let mut k = 1;
+    let mut k = 0;
     while k < m {
         if keys[k] < least {
             least = keys[k];
@@ -77,13 +77,13 @@ pub fn lowest(keys: &[u32; CORES], m: usize) -> u32
     least
 }
 
-// The greatest of the first n numbers.
+// The greatest of the first n numbers, in the same way.
 pub fn greatest(ranks: &[u32; SOURCES], n: usize) -> u32
     requires { ⌜ (0 < n) × (n ≤ maxSources) ⌝ }
     ensures { λ x. ⌜ GreatestOf (now (ranks .entry)) n x ⌝ }
 {
     let mut top = ranks[0];
-    let mut i = 1;
+    let mut i = 0;
     while i < n {
         if top < ranks[i] {
             top = ranks[i];

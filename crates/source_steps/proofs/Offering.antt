@@ -1,6 +1,7 @@
 -- One request offered to the least core, on the bytes of a state. Assumes nothing.
 --   above-by-number              a source's number tells whether its request interrupts a core
 --   core-fits, names-one         the core that the least number tells, and what its box names
+--   offer-none                   a request that is no candidate changes nothing
 --   offer-rests, offer-delivers  a request that isn't above it changes nothing; one that is is delivered there
 use Prim.Native.Nat.{ℕ, _<_, _≤_}
 use mathlib.Core.Path.{_≡_, sym, ap, ap₂, subst, _∙_}
@@ -36,6 +37,18 @@ above-by-number c r i = go (flag (candidate r))
     go : Flag (candidate r) → interruptedBy c r ≡ ltb (currentPriority c) (priorityOf (rankAt i r))
     go (on e) = rw e (ap (ltb (currentPriority c)) (omega arith))
     go (off e) = rw e (sym (le-ltb (currentPriority c) 0 (omega arith)))
+
+-- no candidate: its number is 0
+pub offer-none :
+    {b keys ranks : List ℕ} {m i : ℕ} {r : Source} (o : Offered (stateFrom b) b keys ranks m i r) {x : Outcome} → getD ranks i 0 ≡ 0 →
+    Says x 0 0 0 → Leaves (deliveredOnce (stateFrom b) i) x b keys ranks
+offer-none {b} {i = i} o e says =
+    let s : Controller = stateFrom b in
+    let low : Core = coreAt s (least (s .cores) (s .m)) in
+    let number : rankAt i (sourceAt s i) ≡ 0 = sym (o .held .numbered .ranked i (o .source-in)) ∙ e in
+    let calm : interruptedBy low (sourceAt s i) ≡ false =
+    above-by-number low (sourceAt s i) i ∙ le-ltb (currentPriority low) (priorityOf (rankAt i (sourceAt s i))) (omega (arith, number)) in
+    rw calm (record { says = says; held = o .held })
 
 module _ {b keys ranks : List ℕ} {m i : ℕ} {r : Source} (o : Offered (stateFrom b) b keys ranks m i r) {key : ℕ}
     (lowest : LowestOf keys m key) where

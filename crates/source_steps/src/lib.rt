@@ -22,7 +22,7 @@ use model::SourceAction;
 use model::SourceId;
 
 // The request of source i + 1, whose record is r, goes to the least of m cores, if it is a candidate and strictly above it. A delivery is
-// one cycle.
+// one cycle. No core is looked for where there is no candidate.
 fn offer(
     state: &mut [u8],
     keys: &mut [u32; CORES],
@@ -35,8 +35,12 @@ fn offer(
     ensures { λ x. ⌜ Leaves (deliveredOnce (stateFrom (now (state .entry))) i) x
         (now (state .exit)) (now (keys .exit)) (now (ranks .exit)) ⌝ }
 {
+    let rank = ranks[i];
+    if rank == 0 {
+        return answered(0, SourceId(0), 0);
+    }
     let key = places::lowest(keys, m);
-    if places::priority_of(ranks[i]) <= places::current_of(key) {
+    if places::priority_of(rank) <= places::current_of(key) {
         return answered(0, SourceId(0), 0);
     }
     let k = places::core_of(key);

@@ -5,7 +5,7 @@ use mathlib.Core.List.{List}
 use mathlib.Core.Logic.{⊎-elim}
 use native.Mathlib.Omega.{arith}
 use Rattle.arbitration.specs.Places.{AtLeast}
-use Rattle.arbitration.proofs.Told.{SoFar, so-far-one, so-far-taken, so-far-left, so-far-all}
+use Rattle.arbitration.proofs.Told.{SoFar, so-far-none, so-far-taken, so-far-left, so-far-all}
 use Rattle.arbitration.proofs.places.greatest.Statement.{statement}
 use Rattle.arbitration.proofs.places.greatest.Tie as tie
 
@@ -19,7 +19,7 @@ element-copy-out-top : tie.Need-element-copy-out-top Inv-loop μ-loop
 element-copy-out-top c = omega arith
 
 loop-holds : tie.Need-loop-holds Inv-loop μ-loop
-loop-holds c = so-far-one AtLeast (c .before .args .ranks .now) (c .before .args .n) (omega arith) (omega arith)
+loop-holds c = so-far-none AtLeast (c .before .args .ranks .now) (c .before .args .n) (omega arith)
 
 mul-if1 : tie.Need-mul-if1 Inv-loop μ-loop
 mul-if1 c = omega arith
