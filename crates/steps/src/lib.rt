@@ -13,14 +13,13 @@ use model::CORES;
 use model::Command;
 use model::SOURCES;
 use model::SourceId;
-use well_formed::on_bytes;
 
 // Whether the state is sound; if it is, the numbers of its cores and sources are made.
 pub fn begin(state: &[u8], keys: &mut [u32; CORES], ranks: &mut [u32; SOURCES]) -> bool
     requires { ⌜ (isState (now state) ≡ true) × (length (now keys) ≡ maxCores) × (length (now ranks) ≡ maxSources) ⌝ }
     ensures { λ sound. ⌜ Going sound (now (state .entry)) (now (keys .exit)) (now (ranks .exit)) ⌝ }
 {
-    let sound = on_bytes::well_formed(state);
+    let sound = state_test::well_formed(state);
     if sound {
         in_place::number_all(state, keys, ranks);
     }

@@ -15,5 +15,3 @@ pub mod Fits
 pub mod Cores
 pub mod Marks
 pub mod Verdict
-pub mod Read
-pub mod Repeats

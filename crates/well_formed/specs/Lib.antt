@@ -1,7 +1,5 @@
 -- What a survey says of a state, and helpers of this crate's contracts.
 --   Survey    a survey's fields, as definitions
 --   Loops     what each test and each loop computes; nothing there needs to be believed
---   OnBytes   what the passes over bytes are given
 pub mod Survey
 pub mod Loops
-pub mod OnBytes

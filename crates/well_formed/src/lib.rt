@@ -1,6 +1,4 @@
-// The sound-state test: what it asks of one record, whatever that holds; the passes over a state are in `on_bytes`.
-pub mod on_bytes;
-
+// The sound-state test: what it asks of one record, whatever that holds. The passes over a state are the crate state_test.
 ghost use Prim.Native.Nat.{min, max};
 ghost use mathlib.Core.Path.{_≡_};
 ghost use mathlib.Core.Bool.{true};
@@ -50,7 +48,7 @@ pub fn sizes_in_range(n: u16, m: u16) -> bool
 }
 
 // Whether a number is "1 to top"; an id, 1 to n.
-fn in_range(p: u16, top: u16) -> bool
+pub fn in_range(p: u16, top: u16) -> bool
     ensures { λ r. ⌜ r ≡ between 1 top p ⌝ }
 {
     records::one_to(top as u32, p)
@@ -73,7 +71,7 @@ fn is_empty_box(b: MessageBox) -> bool
 }
 
 // Whether a core is fresh: at 0, its box empty.
-fn is_reset_core(c: Core) -> bool
+pub fn is_reset_core(c: Core) -> bool
     ensures { λ r. ⌜ r ≡ isResetCore c ⌝ }
 {
     if c.configured != 0 {
@@ -96,7 +94,7 @@ fn is_idle(s: Source) -> bool
 }
 
 // Whether a source is fresh: masked, of configured priority 1, with no request. So nested, the compiler merges the tests.
-fn is_reset_source(s: Source) -> bool
+pub fn is_reset_source(s: Source) -> bool
     ensures { λ r. ⌜ r ≡ isResetSource s ⌝ }
 {
     if s.configured != 1 {
@@ -109,7 +107,7 @@ fn is_reset_source(s: Source) -> bool
 }
 
 // Whether "core priorities 0 to top" and the blank values hold of a core: a filled box has an id 1 to n, an unfilled one is empty.
-fn core_in_range(c: Core, n: u16, top: u16) -> bool
+pub fn core_in_range(c: Core, n: u16, top: u16) -> bool
     ensures { λ r. ⌜ r ≡ coreFits n top c ⌝ }
 {
     if top < c.configured {
@@ -124,7 +122,7 @@ fn core_in_range(c: Core, n: u16, top: u16) -> bool
 
 // Whether a filled box's source is "pending and delivered, with the same priority, strictly above its core's configured priority"; a dirty
 // box need not be above. That the id is in range is tested before.
-fn is_backed(c: Core, s: Source) -> bool
+pub fn is_backed(c: Core, s: Source) -> bool
     ensures { λ r. ⌜ r ≡ backs c s ⌝ }
 {
     if !s.pending {
@@ -174,7 +172,7 @@ fn boxed_priority(c: Core) -> u16
 
 // ---- the survey's values. Every literal of one stands here.
 
-fn inconsistent() -> Surveyed
+pub fn inconsistent() -> Surveyed
     ensures { λ r. ⌜ r ≡ inconsistentSurvey ⌝ }
 {
     Surveyed {
@@ -187,7 +185,7 @@ fn inconsistent() -> Surveyed
     }
 }
 
-fn found(clean: bool, lowest: u16, covered: u16, boxed: u16, waiting: u16) -> Surveyed
+pub fn found(clean: bool, lowest: u16, covered: u16, boxed: u16, waiting: u16) -> Surveyed
     ensures { λ r. ⌜ r ≡ surveyWith true clean lowest covered boxed waiting ⌝ }
 {
     Surveyed {
@@ -203,7 +201,7 @@ fn found(clean: bool, lowest: u16, covered: u16, boxed: u16, waiting: u16) -> Su
 // ---- one record more
 
 // What is found so far, with one core more.
-fn with_core(v: Surveyed, c: Core) -> Surveyed
+pub fn with_core(v: Surveyed, c: Core) -> Surveyed
     ensures { λ r. ⌜ r ≡ withCore v c ⌝ }
 {
     let mut clean = v.clean;
