@@ -1,0 +1,3 @@
+-- What holds of the interrupt routines.
+--   Test      the computed test means its proposition
+pub mod Test
