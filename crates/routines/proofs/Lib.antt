@@ -1,3 +1,5 @@
 -- What holds of the interrupt routines.
 --   Test      the computed test means its proposition
 pub mod Test
+pub mod Answered
+pub mod Refusals
