@@ -3,3 +3,4 @@
 pub mod Test
 pub mod Answered
 pub mod Refusals
+pub mod Examples

@@ -2,6 +2,8 @@
 --   Routines      the state of the simulation, when it is sound, its calls, the table of handovers
 --   History       the history of a run, and the handovers in it
 --   Statements    what is claimed of all this, as propositions; their proofs are in proofs/
+--   Cases         worked runs, states and histories
 pub mod Routines
 pub mod History
 pub mod Statements
+pub mod Cases
