@@ -3,4 +3,5 @@
 pub mod Test
 pub mod Answered
 pub mod Refusals
+pub mod Switch
 pub mod Examples
