@@ -4,4 +4,5 @@ pub mod Test
 pub mod Answered
 pub mod Refusals
 pub mod Switch
+pub mod After
 pub mod Examples
