@@ -3,6 +3,12 @@
 pub mod Test
 pub mod Answered
 pub mod Refusals
+pub mod Standing
 pub mod Switch
 pub mod After
+pub mod LetGo
+pub mod DirectKept
+pub mod EntryKept
+pub mod ExitKept
+pub mod Kept
 pub mod Examples

@@ -14,6 +14,7 @@ use Rattle.model.specs.Requests.{claimed}
 use Rattle.model.specs.WellFormed.{WellFormed}
 use Rattle.routines.specs.declared.Routines.{Routines}
 use Rattle.routines.specs.Routines.{activeAt, holderAt, Runs, RunsOnce, IdleAt, SoundRoutines}
+use Rattle.routines.proofs.Standing.{same-core}
 
 -- The request of source i + 1 is claimed in t as in s, with the same priority and the same last holder.
 pub record Stays (s t : Routines) (i : ℕ) : Type 0 where
@@ -57,12 +58,6 @@ module _ {s t : Routines} {k a : ℕ} (sound : SoundRoutines s) (x : Switch s t 
   core-of : {j : ℕ} → j < t .controller .m → j < s .controller .m
   core-of h = omega (arith, x .m-same)
 
-  -- two cores of s run one request only if they are one
-  same-core : (i j l : ℕ) → Runs s i j → l < s .controller .m → activeAt s l ≡ suc i → l ≡ j
-  same-core i j l r h e =
-      let (c, once) = sound .active-once i (r .source-in) (r .is-claimed) in
-      once .only l h e ∙ sym (once .only j (r .core-in) (r .active))
-
   -- on another core a request ran before
   before : (i j : ℕ) → Runs t i j → j ≢ k → Runs s i j × (suc i ≢ activeAt s k)
   before i j r p =
@@ -73,7 +68,7 @@ module _ {s t : Routines} {k a : ℕ} (sound : SoundRoutines s) (x : Switch s t 
   -- and goes on there
   after : (i j : ℕ) → Runs s i j → j ≢ k → Runs t i j
   after i j r p =
-      let ne : suc i ≢ activeAt s k = λ e. p (sym (same-core i j k r (x .core-in) (sym e))) in
+      let ne : suc i ≢ activeAt s k = λ e. p (sym (same-core s sound i j k r (x .core-in) (sym e))) in
       record {
         core-in = omega (arith, r .core-in, x .m-same);
         source-in = omega (arith, r .source-in, x .n-same);

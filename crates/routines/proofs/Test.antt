@@ -78,7 +78,7 @@ module _ (s : Routines) where
   c = s .controller
 
   -- core k runs the request that is active on it
-  runs-out : (k : ℕ) → runs s k ≡ true → Runs s (activeIndex s k) k
+  pub runs-out : (k : ℕ) → runs s k ≡ true → Runs s (activeIndex s k) k
   runs-out k e =
       let x = ltb-exact k (c .m) and between-exact 1 (c .n) (activeAt s k) and flag-exact (claimed c (activeIndex s k)) in
       let ((core-in, (low, high)), is-claimed) = x .0 e in
@@ -89,7 +89,7 @@ module _ (s : Routines) where
   index-of : (i k : ℕ) → activeAt s k ≡ suc i → activeIndex s k ≡ i
   index-of i k e = ap pred e
 
-  runs-in : (i k : ℕ) → Runs s i k → runs s k ≡ true
+  pub runs-in : (i k : ℕ) → Runs s i k → runs s k ≡ true
   runs-in i k r =
       let x = ltb-exact k (c .m) and between-exact 1 (c .n) (activeAt s k) and flag-exact (claimed c (activeIndex s k)) in
       x .1 ((r .core-in, (omega (arith, r .active), omega (arith, r .active, r .source-in))), rw (index-of i k (r .active)) (r .is-claimed))
