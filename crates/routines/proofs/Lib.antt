@@ -11,4 +11,6 @@ pub mod DirectKept
 pub mod EntryKept
 pub mod ExitKept
 pub mod Kept
+pub mod Strict
+pub mod Cells
 pub mod Examples
