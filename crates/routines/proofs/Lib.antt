@@ -13,4 +13,5 @@ pub mod ExitKept
 pub mod Kept
 pub mod Strict
 pub mod Cells
+pub mod Tally
 pub mod Examples
