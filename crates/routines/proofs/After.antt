@@ -3,16 +3,15 @@
 --   SourceStep, source-step     of a command on a source: the cores stay, and the other sources
 --   Claiming, claiming          of a claim: the box's request becomes claimed, at the core's configured priority
 --   lowered-..                  of set core priority: no request is claimed or let go
-use Prim.Native.Nat.{ℕ, suc, pred, _*_, _<_, _≤_}
+use Prim.Native.Nat.{ℕ, suc, _*_, _<_}
 use mathlib.Core.Path.{_≡_, refl, sym, _∙_, ap}
 use mathlib.Core.Logic.{_≢_}
-use mathlib.Core.Bool.{Bool, true, false, not, _&&_}
-use lib.ListN.{length, getD, set, List·getD-map}
+use mathlib.Core.Bool.{true, false, not, _&&_}
+use lib.ListN.{length, set, List·getD-map}
 use lib.Seq.{getD-set-same, getD-set-other}
 use native.Mathlib.Omega.{arith}
-use native.Mathlib.Decide.{ℕ-discrete}
 use borrow.Author.Tests.{ne-eqb}
-use Rattle.lists.proofs.Bools.{and-in, and-l, and-r, not-in, clash, refuted}
+use Rattle.lists.proofs.Bools.{and-in, not-in, clash, refuted}
 use Rattle.lists.proofs.Writes.{read-set, read-kept}
 use Rattle.model.specs.declared.SourceId.{SourceId}
 use Rattle.model.specs.declared.CoreId.{CoreId}
@@ -34,7 +33,7 @@ use Rattle.model.proofs.Boxes.{holds-in, holds-filled, holds-source, boxed-in, 
 use Rattle.settling.specs.Phases.{Kept}
 use Rattle.settling.proofs.Keeps.{kept-n, kept-m, kept-priority, kept-core-configured, settling-leaves-bare}
 use Rattle.effects.proofs.Accepted.{execute-accepted}
-use Rattle.effects.proofs.Checked.{accepted, named-index, Named}
+use Rattle.effects.proofs.Checked.{accepted, named-index}
 use Rattle.effects.proofs.Effects.{effect-sizes}
 use Rattle.effects.proofs.CoreEffects.{claimedCores, setCores}
 use Rattle.effects.proofs.Kept.{execute-settles}

@@ -2,7 +2,7 @@
 --   call-accepted, call-refused   the answer, by whether the number for no is 0
 --   by-call                       what holds of both answers holds of every call's
 --   number-answered               the number answered is the refusal's
-use mathlib.Core.Path.{_≡_, refl, sym}
+use mathlib.Core.Path.{_≡_, refl}
 use mathlib.Core.Logic.{_≢_}
 use native.Mathlib.Decide.{ℕ-discrete}
 use borrow.Author.Tests.{eq-eqb, ne-eqb}

@@ -11,10 +11,8 @@ use native.Mathlib.Decide.{ℕ-discrete}
 use Rattle.lists.proofs.Bools.{clash, refuted}
 use Rattle.lists.proofs.Writes.{read-set}
 use Rattle.model.specs.declared.SourceId.{SourceId}
-use Rattle.model.specs.declared.Controller.{Controller}
-use Rattle.model.specs.declared.Command.{Command}
 use Rattle.model.specs.declared.Source.{Source}
-use Rattle.model.specs.Records.{maxSources, indexOf, withConfigured, withMask, opened, sourceAt, coreAt}
+use Rattle.model.specs.Records.{maxSources, indexOf, withConfigured, withMask, opened, sourceAt}
 use Rattle.model.specs.Requests.{boxed, claimed}
 use Rattle.model.specs.Commands.{sourceAfter, refusal, execute}
 use Rattle.model.proofs.Claims.{claimed-out}
@@ -26,7 +24,7 @@ use Rattle.routines.specs.declared.DirectAction.the-variants.{SetPriorit
 use Rattle.routines.specs.Routines.{activeAt, holderAt, activeIndex, routinesWith, Runs, SoundRoutines, actionOf, commandOf, holderAfter, commanded}
 use Rattle.routines.proofs.After.{SourceStep, source-step}
 use Rattle.routines.proofs.Standing.{running, same-core, idle-at-zero, active-le}
-use Rattle.routines.proofs.Switch.{Stays, TakenBy, Switch, switch-sound}
+use Rattle.routines.proofs.Switch.{Stays, TakenBy, switch-sound}
 
 -- With record r written at index at, and these last holders: the source there is claimed if it was, and then its request and its last
 -- holder are the same.
@@ -136,21 +134,21 @@ module _ (s : Routines) (sound : SoundRoutines s) (id : SourceId) (a : DirectAct
   unfolding commanded
   commanded-kept =
       switch-sound {k = 0} {a = activeAt s 0} sound (
-        record {
-          well-formed = wellFormed-kept (s .controller) (commandOf id a) (sound .controller);
-          n-same = x .n-same;
-          m-same = x .m-same;
-          core-in = some;
-          active-length = sound .active-length;
-          holder-length = facts .long;
-          here = refl;
-          id-le = active-le s sound 0 some;
-          none = λ q. x .configured 0 ∙ idle-at-zero s sound 0 some q;
-          taken = taken;
-          elsewhere = λ j h. refl;
-          apart = λ j l h q z. h (same-core s sound (activeIndex s 0) 0 j (runs-on (activeIndex s 0) (id-of q)) l (z ∙ sym (id-of q)));
-          configured = λ j h. x .configured j;
-          claimed-before = λ i l h q. (sym (claimed-same i l) ∙ q, h);
-          stays = λ i l q h. stays i l q;
-          holders-inside = facts .inside;
-        })
+      record {
+        well-formed = wellFormed-kept (s .controller) (commandOf id a) (sound .controller);
+        n-same = x .n-same;
+        m-same = x .m-same;
+        core-in = some;
+        active-length = sound .active-length;
+        holder-length = facts .long;
+        here = refl;
+        id-le = active-le s sound 0 some;
+        none = λ q. x .configured 0 ∙ idle-at-zero s sound 0 some q;
+        taken = taken;
+        elsewhere = λ j h. refl;
+        apart = λ j l h q z. h (same-core s sound (activeIndex s 0) 0 j (runs-on (activeIndex s 0) (id-of q)) l (z ∙ sym (id-of q)));
+        configured = λ j h. x .configured j;
+        claimed-before = λ i l h q. (sym (claimed-same i l) ∙ q, h);
+        stays = λ i l q h. stays i l q;
+        holders-inside = facts .inside;
+      })

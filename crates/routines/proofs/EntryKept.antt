@@ -4,12 +4,10 @@
 use Prim.Native.Nat.{ℕ, zero, suc, pred, _<_, _≤_}
 use mathlib.Core.Path.{_≡_, refl, sym, _∙_, ap, subst}
 use mathlib.Core.Logic.{_≢_}
-use mathlib.Core.List.{List}
-use mathlib.Core.Bool.{true, false}
-use lib.ListN.{length, getD, set, length-set}
+use mathlib.Core.Bool.{true}
+use lib.ListN.{length, set, length-set}
 use lib.Seq.{getD-set-same, getD-set-other}
 use native.Mathlib.Omega.{arith}
-use native.Mathlib.Decide.{ℕ-discrete}
 use borrow.Author.Tests.{ne-eqb}
 use Rattle.lists.proofs.Bools.{clash}
 use Rattle.lists.proofs.Writes.{read-set}
@@ -20,17 +18,16 @@ use Rattle.model.specs.declared.Answer.{Answer}
 use Rattle.model.specs.declared.Command.the-variants.{OnSource, OnCore}
 use Rattle.model.specs.declared.SourceAction.the-variants.{Redeliver}
 use Rattle.model.specs.declared.CoreAction.the-variants.{Claim}
-use Rattle.model.specs.Records.{maxSources, sourceId, indexOf, sourceAt, coreAt, withCore, answer}
+use Rattle.model.specs.Records.{sourceId, coreAt}
 use Rattle.model.specs.Requests.{claimed}
 use Rattle.model.specs.WellFormed.{WellFormed, Holding}
-use Rattle.model.specs.Commands.{claimedCore, execute}
 use Rattle.effects.proofs.Kept.{wellFormed-kept}
 use Rattle.effects.proofs.AtRest.{claim-answer}
 use Rattle.routines.specs.declared.Routines.{Routines}
 use Rattle.routines.specs.declared.RoutineCall.the-variants.{Enter}
-use Rattle.routines.specs.Routines.{activeAt, holderAt, activeIndex, routinesWith, Runs, SoundRoutines, claimOn, handBack, enteredBy, entered, callRefusalOf}
+use Rattle.routines.specs.Routines.{activeAt, activeIndex, routinesWith, Runs, SoundRoutines, claimOn, handBack, entered}
 use Rattle.routines.specs.Statements.{EntryAnswered}
-use Rattle.routines.proofs.Standing.{running, same-core, sound-accepted, enter-checked, answered}
+use Rattle.routines.proofs.Standing.{running, sound-accepted, enter-checked, answered}
 use Rattle.routines.proofs.After.{Claiming, claiming}
 use Rattle.routines.proofs.LetGo.{LetGo, none-goes, redeliver-accepted, redelivered-goes}
 use Rattle.routines.proofs.Switch.{Stays, TakenBy, Switch, switch-sound}

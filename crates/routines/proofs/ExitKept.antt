@@ -1,9 +1,9 @@
 -- An accepted exit keeps the simulation sound, and its commands are accepted (`ExitAnswered`). Assumes nothing.
 --   exited-kept    core k lets its request go, and is idle at 0
-use Prim.Native.Nat.{ℕ, suc, pred, _<_, _≤_}
-use mathlib.Core.Path.{_≡_, refl, sym, _∙_, ap, subst}
+use Prim.Native.Nat.{ℕ, suc, _<_}
+use mathlib.Core.Path.{_≡_, refl, sym, _∙_, subst}
 use mathlib.Core.Logic.{_≢_}
-use mathlib.Core.Bool.{true, false}
+use mathlib.Core.Bool.{true}
 use lib.ListN.{length, set, length-set}
 use lib.Seq.{getD-set-same, getD-set-other}
 use native.Mathlib.Omega.{arith}
@@ -14,7 +14,7 @@ use Rattle.model.specs.declared.Controller.{Controller}
 use Rattle.model.specs.declared.Command.the-variants.{OnSource, OnCore}
 use Rattle.model.specs.declared.SourceAction.the-variants.{Complete}
 use Rattle.model.specs.declared.CoreAction.the-variants.{SetCorePriority}
-use Rattle.model.specs.Records.{sourceId, sourceAt, coreAt}
+use Rattle.model.specs.Records.{sourceId}
 use Rattle.model.specs.Priorities.{topPriority}
 use Rattle.model.specs.Requests.{claimed}
 use Rattle.model.specs.Commands.{refusalOf, refusal, execute}

@@ -1,12 +1,11 @@
 -- Redeliver and complete let a claimed request go: it is not claimed any more, and nothing else is claimed or let go. Assumes nothing.
 --   LetGo s t id      from s to t the request of source id was let go; id 0: none
 --   redelivered-goes, completed-goes    the two commands on a claimed request, which are accepted
-use Prim.Native.Nat.{ℕ, suc, pred, _<_, _≤_}
-use mathlib.Core.Path.{_≡_, refl, sym, _∙_, ap}
+use Prim.Native.Nat.{ℕ, suc, _<_, _≤_}
+use mathlib.Core.Path.{_≡_, refl, _∙_, ap}
 use mathlib.Core.Logic.{_≢_}
-use mathlib.Core.Bool.{Bool, true, false, not, _&&_}
+use mathlib.Core.Bool.{Bool, true, false, _&&_}
 use native.Mathlib.Omega.{arith}
-use native.Mathlib.Decide.{ℕ-discrete}
 use Rattle.lists.proofs.Exact.{between-exact}
 use Rattle.model.specs.declared.Controller.{Controller}
 use Rattle.model.specs.declared.Command.the-variants.{OnSource}

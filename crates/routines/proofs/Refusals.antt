@@ -2,9 +2,8 @@
 --   Line n j      the lines of a call: 1, the number of its name's check, at turn 2, and that of its last check, at a later turn
 --   ordered       of three checks in a row, the number is that of the first line met
 use Prim.Native.Nat.{ℕ, _<_, _≤_}
-use mathlib.Core.Path.{_≡_, refl, sym, _∙_}
-use mathlib.Core.Logic.{_↔_}
-use mathlib.Core.Bool.{Bool, true, false, not}
+use mathlib.Core.Path.{_≡_, refl}
+use mathlib.Core.Bool.{Bool, true, false}
 use native.Mathlib.Omega.{arith}
 use Rattle.lists.proofs.Bools.{Flag, on, off, flag, clash, refuted, confirmed}
 use Rattle.lists.proofs.Exact.{Exact, flag-exact, not-exact, ltb-exact, between-exact}
@@ -15,7 +14,6 @@ use Rattle.model.specs.Priorities.{topPriority}
 use Rattle.model.specs.Commands.{unless, refusalOf}
 use Rattle.model.specs.Statements.{turn}
 use Rattle.routines.specs.declared.Routines.{Routines}
-use Rattle.routines.specs.declared.DirectAction.{DirectAction}
 use Rattle.routines.specs.declared.DirectAction.the-variants.{SetPriority, Mask, Unmask, Trigger}
 use Rattle.routines.specs.declared.RoutineCall.{RoutineCall}
 use Rattle.routines.specs.declared.RoutineCall.the-variants.{Direct, Enter, Exit}

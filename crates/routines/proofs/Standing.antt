@@ -3,7 +3,7 @@
 --   sound-accepted                      an accepted call has found a sound simulation, and has passed its checks
 --   command-accepted, answered          a command that passes its checks on a sound controller is accepted, and answers 0
 --   enter-checked, exit-checked         what the checks of entry and exit say
-use Prim.Native.Nat.{ℕ, suc, pred, _<_, _≤_}
+use Prim.Native.Nat.{ℕ, suc, _<_, _≤_}
 use mathlib.Core.Path.{_≡_, refl, sym, _∙_, ap}
 use mathlib.Core.Logic.{_≢_}
 use mathlib.Core.Bool.{Bool, true, false}
@@ -15,15 +15,15 @@ use Rattle.model.specs.declared.CoreId.{CoreId}
 use Rattle.model.specs.declared.Controller.{Controller}
 use Rattle.model.specs.declared.Answer.{Answer}
 use Rattle.model.specs.declared.Command.{Command}
-use Rattle.model.specs.Records.{maxCores, sourceAt, coreAt}
-use Rattle.model.specs.WellFormed.{WellFormed, wellFormed}
+use Rattle.model.specs.Records.{maxCores, coreAt}
+use Rattle.model.specs.WellFormed.{WellFormed}
 use Rattle.model.specs.Commands.{unless, namesCore, refusalOf, refusal, settled, execute}
 use Rattle.well_formed.proofs.Test.{wellFormed-in}
 use Rattle.effects.proofs.Accepted.{execute-accepted}
 use Rattle.routines.specs.declared.Routines.{Routines}
 use Rattle.routines.specs.declared.RoutineCall.{RoutineCall}
 use Rattle.routines.specs.declared.RoutineCall.the-variants.{Enter, Exit}
-use Rattle.routines.specs.Routines.{activeAt, activeIndex, runs, soundRoutines, Runs, IdleAt, SoundRoutines, callRefusalOf, callRefusal}
+use Rattle.routines.specs.Routines.{activeAt, activeIndex, runs, soundRoutines, Runs, SoundRoutines, callRefusalOf, callRefusal}
 use Rattle.routines.proofs.Test.{runs-out, runs-in, routines-test-exact}
 
 module _ (s : Routines) (sound : SoundRoutines s) where

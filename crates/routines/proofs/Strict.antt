@@ -2,8 +2,7 @@
 --   zeros            nothing is active and nothing was held
 --   sound-strict     both clauses of a sound simulation with no box filled: the current priorities are the configured ones
 use Prim.Native.Nat.{ℕ, zero, suc, _<_, _≤_}
-use mathlib.Core.Path.{_≡_, refl, sym, _∙_, ap}
-use mathlib.Core.Logic.{_≢_}
+use mathlib.Core.Path.{_≡_, refl, ap}
 use mathlib.Core.Bool.{true, false}
 use lib.ListN.{getD, replicate, length-replicate}
 use native.Mathlib.Omega.{arith}
@@ -13,12 +12,11 @@ use Rattle.model.specs.declared.Source.{Source}
 use Rattle.model.specs.declared.Core.{Core}
 use Rattle.model.specs.Records.{maxSources, maxCores, sourceAt, coreAt, reset}
 use Rattle.model.specs.Requests.{currentPriority, candidate, claimed}
-use Rattle.model.specs.Commands.{make}
 use Rattle.model.specs.Statements.{InRange}
 use Rattle.model.proofs.Claims.{claimed-out}
 use Rattle.well_formed.proofs.Reset.{core-reset, source-reset, reset-wellFormed, makes-exactly}
 use Rattle.routines.specs.declared.Routines.{Routines}
-use Rattle.routines.specs.Routines.{activeAt, activeIndex, idleBeside, freshRoutines, Runs, SoundRoutines}
+use Rattle.routines.specs.Routines.{activeAt, activeIndex, idleBeside, freshRoutines, SoundRoutines}
 use Rattle.routines.specs.Statements.{FreshSound, StrictlyRun, NoneFilled, EveryRunStrict}
 use Rattle.routines.proofs.Standing.{running, idle-at-zero}
 use Rattle.routines.proofs.Kept.{run-sound}

@@ -3,32 +3,29 @@
 --   Tallied s t h     the last holders of s and the cells of t are what the history h says
 --   step-tallied      a call keeps it so
 use Prim.Native.Nat.{ℕ, zero, suc, pred, _+_, _<_, _≤_, min}
-use mathlib.Core.Path.{_≡_, refl, sym, _∙_, ap, subst}
+use mathlib.Core.Path.{_≡_, refl, sym, _∙_, ap}
 use mathlib.Core.Logic.{_≢_}
 use mathlib.Core.List.{List, [], _∷_}
-use mathlib.Core.Bool.{Bool, true, false, not, _&&_, cond}
-use lib.Dec.{ltb, eqb}
-use lib.ListN.{length, getD, set, replicate, length-replicate, getD-replicate, List·getD-eq-default}
+use mathlib.Core.Bool.{Bool, true, false, _&&_, cond}
+use lib.Dec.{eqb}
+use lib.ListN.{length, getD, set, replicate, length-replicate, getD-replicate}
 use native.Mathlib.Omega.{arith}
-use native.Mathlib.Decide.{decLt}
 use borrow.Author.Tests.{eq-eqb, ne-eqb}
-use Rattle.lists.proofs.Bools.{Flag, on, off, flag, refuted}
 use Rattle.lists.proofs.Writes.{read-written}
 use Rattle.model.specs.declared.SourceId.{SourceId}
 use Rattle.model.specs.declared.CoreId.{CoreId}
 use Rattle.model.specs.Records.{maxSources, maxCores, indexOf, coreAt, reset}
 use Rattle.model.specs.WellFormed.{Holding}
-use Rattle.model.specs.Statements.{InRange}
 use Rattle.effects.proofs.Checked.{Named, accepted}
 use Rattle.routines.specs.declared.Routines.{Routines}
 use Rattle.routines.specs.declared.DirectAction.{DirectAction}
 use Rattle.routines.specs.declared.DirectAction.the-variants.{SetPriority, Mask, Unmask, Trigger}
 use Rattle.routines.specs.declared.RoutineCall.{RoutineCall}
 use Rattle.routines.specs.declared.RoutineCall.the-variants.{Direct, Enter, Exit}
-use Rattle.routines.specs.Routines.{holderAt, commandOf, idleBeside, freshRoutines, SoundRoutines, callRefusalOf, callRefusal, claimOn, entered, exited, commanded, acceptedCall, afterRefusedCall, callRoutine, Handovers, rowAt, cellAt, noHandovers, mostHandovers, oneMore, boxHolder, counted, tableAfter, runTable}
+use Rattle.routines.specs.Routines.{holderAt, commandOf, idleBeside, freshRoutines, SoundRoutines, callRefusalOf, callRefusal, claimOn, entered, exited, commanded, acceptedCall, afterRefusedCall, callRoutine, Handovers, cellAt, noHandovers, mostHandovers, oneMore, boxHolder, counted, tableAfter, runTable}
 use Rattle.routines.specs.History.{Event, heldBy, lastHolder, passesOn, handovers, eventOf, eventWith, historyAfter, history}
 use Rattle.routines.specs.Statements.{TableIsHistory, DiagonalZero}
-use Rattle.routines.proofs.Answered.{call-accepted, by-call}
+use Rattle.routines.proofs.Answered.{by-call}
 use Rattle.routines.proofs.Standing.{sound-accepted, enter-checked, command-accepted}
 use Rattle.routines.proofs.EntryKept.{claim-id}
 use Rattle.routines.proofs.Strict.{zeros, fresh-is}

@@ -3,14 +3,14 @@
 --   runs-exact      the test of a running core: some claimed request is active on it
 --   routines-test-exact   the whole
 use Prim.Native.Nat.{ℕ, suc, pred, _+_, _-_, _<_, _≤_}
-use mathlib.Core.Path.{_≡_, refl, sym, _∙_, ap}
-use mathlib.Core.Logic.{_↔_, Iff·trans}
-use mathlib.Core.Bool.{Bool, true, false, not, _||_}
+use mathlib.Core.Path.{_≡_, ap}
+use mathlib.Core.Logic.{Iff·trans}
+use mathlib.Core.Bool.{Bool, true, not, _||_}
 use lib.ListN.{length}
 use lib.Dec.{eqb}
 use native.Mathlib.Nat.{zero-add}
 use native.Mathlib.Omega.{arith}
-use native.Mathlib.Decide.{decLt, ℕ-discrete}
+use native.Mathlib.Decide.{decLt}
 use borrow.Author.Tests.{eqb-true, eq-eqb}
 use Rattle.lists.specs.Walks.{tally, every}
 use Rattle.lists.proofs.Bools.{clash, refuted}
@@ -22,7 +22,7 @@ use Rattle.model.specs.Records.{maxSources, maxCores, sourceAt, coreAt}
 use Rattle.model.specs.Requests.{claimed}
 use Rattle.well_formed.proofs.Test.{test-exact}
 use Rattle.routines.specs.declared.Routines.{Routines}
-use Rattle.routines.specs.Routines.{activeAt, holderAt, routineLists, activeOn, activeOnce, activeIndex, runs, atItsPriority, lastHeldThere, othersIdle, holdersInside, soundRoutines, Runs, RunsOnce, IdleAt, SoundRoutines}
+use Rattle.routines.specs.Routines.{activeAt, holderAt, routineLists, activeOn, activeOnce, activeIndex, runs, atItsPriority, lastHeldThere, othersIdle, holdersInside, soundRoutines, Runs, RunsOnce, IdleAt}
 use Rattle.routines.specs.Statements.{RoutinesTestExact}
 
 -- ---- exactly one

@@ -4,14 +4,13 @@
 --   passes c      whether the definitions answer as the case says
 --   stateCases    for each clause of the test states that break it, beside the sound one that they differ from
 --   histories     histories written by hand, with the handovers in them
-use Prim.Native.Nat.{ℕ, suc}
+use Prim.Native.Nat.{ℕ}
 use mathlib.Core.Path.{_≡_}
 use mathlib.Core.List.{List, [], _∷_, _++_}
-use mathlib.Core.Bool.{Bool, true, false, _&&_}
+use mathlib.Core.Bool.{Bool, true, _&&_}
 use lib.Dec.{eqb}
-use lib.ListN.{set, replicate}
+use lib.ListN.{set}
 use Rattle.lists.specs.Rows.{row}
-use Rattle.model.specs.declared.Controller.{Controller}
 use Rattle.model.specs.Records.{sourceId, coreId, withConfigured, coreWith, emptyBox, sourceAt, withSource, withCore}
 use Rattle.model.specs.WellFormed.{wellFormed}
 use Rattle.model.specs.Cases.{start, sameNumbers}
@@ -21,7 +20,7 @@ use Rattle.routines.specs.declared.DirectAction.the-variants.{SetPriorit
 use Rattle.routines.specs.declared.RoutineCall.{RoutineCall}
 use Rattle.routines.specs.declared.RoutineCall.the-variants.{Direct, Enter, Exit}
 use Rattle.routines.specs.declared.RoutineAnswer.{RoutineAnswer}
-use Rattle.routines.specs.Routines.{activeAt, holderAt, routinesWith, withController, idleBeside, routineLists, activeOnce, atItsPriority, lastHeldThere, othersIdle, holdersInside, soundRoutines, callRoutine, Handovers, cellAt, noHandovers, tableAfter, runRoutines, runTable, raised}
+use Rattle.routines.specs.Routines.{activeAt, routinesWith, withController, idleBeside, routineLists, activeOnce, atItsPriority, lastHeldThere, othersIdle, holdersInside, soundRoutines, callRoutine, Handovers, cellAt, noHandovers, runRoutines, runTable, raised}
 use Rattle.routines.specs.History.{Event, eventWith, lastHolder, handovers, history}
 
 -- ---- the calls, by numbers
@@ -166,12 +165,12 @@ unfoldable pub refusedByOne : Routines → Bool
 unfolding mask trigger enter exit
 refusedByOne s =
     allHold (
-      eqb ((callRoutine s (mask 33)) .number) 1 ∷
-      eqb ((callRoutine s (trigger 9)) .number) 1 ∷
-      eqb ((callRoutine s (enter 0)) .number) 1 ∷
-      eqb ((callRoutine s (enter 2)) .number) 1 ∷
-      eqb ((callRoutine s (exit 0)) .number) 1 ∷
-      eqb ((callRoutine s (exit 2)) .number) 1 ∷ [])
+    eqb ((callRoutine s (mask 33)) .number) 1 ∷
+    eqb ((callRoutine s (trigger 9)) .number) 1 ∷
+    eqb ((callRoutine s (enter 0)) .number) 1 ∷
+    eqb ((callRoutine s (enter 2)) .number) 1 ∷
+    eqb ((callRoutine s (exit 0)) .number) 1 ∷
+    eqb ((callRoutine s (exit 2)) .number) 1 ∷ [])
 
 unfoldable pub breaksJust : BrokenCase → Bool
 breaksJust c = sameNumbers (failing 0 (routineClauses (c .broken))) (c .breaks) && refusedByOne (c .broken)

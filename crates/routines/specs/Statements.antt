@@ -1,6 +1,6 @@
 -- What is claimed of the interrupt routines. Propositions only. Assumes nothing.
 -- Source: document 02, 4/14, in its order.
-use Prim.Native.Nat.{ℕ, suc, _<_, _≤_, min}
+use Prim.Native.Nat.{ℕ, _<_, _≤_, min}
 use mathlib.Core.Path.{_≡_}
 use mathlib.Core.Logic.{_↔_, _≢_}
 use mathlib.Core.List.{List}
@@ -14,7 +14,7 @@ use Rattle.model.specs.Commands.{malformed, badCore, badSource, badPriority, al
 use Rattle.model.specs.Statements.{InRange, turn}
 use Rattle.routines.specs.declared.Routines.{Routines}
 use Rattle.routines.specs.declared.DirectAction.{DirectAction}
-use Rattle.routines.specs.declared.DirectAction.the-variants.{SetPriority, Mask, Unmask, Trigger}
+use Rattle.routines.specs.declared.DirectAction.the-variants.{SetPriority, Trigger}
 use Rattle.routines.specs.declared.RoutineCall.{RoutineCall}
 use Rattle.routines.specs.declared.RoutineCall.the-variants.{Direct, Enter, Exit}
 use Rattle.routines.specs.Routines.{activeAt, freshRoutines, soundRoutines, Runs, SoundRoutines, claimOn, handBack, completeOn, lower, afterRefusedCall, routineAnswer, callRefusal, callRoutine, cellAt, noHandovers, mostHandovers, runRoutines, runTable}
