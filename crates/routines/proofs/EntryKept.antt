@@ -1,4 +1,5 @@
 -- An accepted entry keeps the simulation sound, and its commands are accepted (`EntryAnswered`). Assumes nothing.
+--   redelivers, interrupted-priority    of the redeliver in it
 --   hand-back      redeliver lets the interrupted request go; without one nothing changes
 --   entered-kept   core k goes over to the request of its box
 use Prim.Native.Nat.{ℕ, zero, suc, pred, _<_, _≤_}
@@ -18,9 +19,10 @@ use Rattle.model.specs.declared.Answer.{Answer}
 use Rattle.model.specs.declared.Command.the-variants.{OnSource, OnCore}
 use Rattle.model.specs.declared.SourceAction.the-variants.{Redeliver}
 use Rattle.model.specs.declared.CoreAction.the-variants.{Claim}
-use Rattle.model.specs.Records.{sourceId, coreAt}
+use Rattle.model.specs.Records.{sourceId, sourceAt, coreAt}
 use Rattle.model.specs.Requests.{claimed}
 use Rattle.model.specs.WellFormed.{WellFormed, Holding}
+use Rattle.model.specs.Commands.{refusal}
 use Rattle.effects.proofs.Kept.{wellFormed-kept}
 use Rattle.effects.proofs.AtRest.{claim-answer}
 use Rattle.routines.specs.declared.Routines.{Routines}
@@ -98,6 +100,16 @@ module _ (s : Routines) (sound : SoundRoutines s) (k : CoreId) (k-lt : k .0 < s 
   interrupted i q =
       let r : Runs s i (k .0) = runs-on i q in
       (omega (arith, r .source-in, claims .n-same), claims .others i (not-boxed i (r .is-claimed)) ∙ r .is-claimed)
+
+  -- the interrupted request can be redelivered, at the priority that its core had
+  pub redelivers :
+      (i : ℕ) → suc i ≡ activeAt s (k .0) → refusal ((claimOn s k) .state) (OnSource (sourceId (suc i)) Redeliver) ≡ 0
+  redelivers i q = let (l, e) = interrupted i q in redeliver-accepted c′ sound′ i l e
+
+  pub interrupted-priority :
+      (i : ℕ) → suc i ≡ activeAt s (k .0) → (sourceAt ((claimOn s k) .state) i) .priority ≡ (coreAt (s .controller) (k .0)) .configured
+  interrupted-priority i q =
+      ap (λ (r : Source). r .priority) (claims .sources i) ∙ sym (sound .at-its-priority i (k .0) (runs-on i q))
 
   goes : LetGo c′ c″ prev
   goes = hand-back c′ sound′ prev interrupted

@@ -45,7 +45,7 @@ module _ (s : Routines) (sound : SoundRoutines s) (k : CoreId) (k-lt : k .0 < s 
   abbrev c″ : Controller
   c″ = (lower c′ k) .state
 
-  completed : refusal c (OnSource (sourceId prev) Complete) ≡ 0
+  pub completed : refusal (s .controller) (OnSource (sourceId (activeAt s (k .0))) Complete) ≡ 0
   completed =
       rw (here .active) (complete-accepted c (sound .controller) (activeIndex s (k .0)) (here .source-in) (here .is-claimed))
 
@@ -53,6 +53,9 @@ module _ (s : Routines) (sound : SoundRoutines s) (k : CoreId) (k-lt : k .0 < s 
   goes =
       subst (λ id. LetGo c ((execute c (OnSource (sourceId id) Complete)) .state) id) (sym (here .active))
       (completed-goes c (sound .controller) (activeIndex s (k .0)) (here .source-in) (here .is-claimed))
+
+  pub completed-m : (completeOn s k) .state .m ≡ s .controller .m
+  completed-m = goes .m-same
 
   lower-checks : refusalOf c′ (OnCore k (SetCorePriority 0)) ≡ 0
   unfolding refusalOf

@@ -11,6 +11,7 @@ pub mod DirectKept
 pub mod EntryKept
 pub mod ExitKept
 pub mod Kept
+pub mod Cycles
 pub mod Strict
 pub mod Cells
 pub mod Tally

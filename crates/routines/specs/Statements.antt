@@ -1,6 +1,6 @@
 -- What is claimed of the interrupt routines. Propositions only. Assumes nothing.
 -- Source: document 02, 4/14, in its order.
-use Prim.Native.Nat.{ℕ, _<_, _≤_, min}
+use Prim.Native.Nat.{ℕ, _*_, _<_, _≤_, min}
 use mathlib.Core.Path.{_≡_}
 use mathlib.Core.Logic.{_↔_, _≢_}
 use mathlib.Core.List.{List}
@@ -71,6 +71,14 @@ abbrev pub ExitAnswered : Type 0
 ExitAnswered =
     (s : Routines) (k : CoreId) → callRefusal s (Exit k) ≡ 0 →
     ((completeOn s k) .number ≡ 0) × ((lower ((completeOn s k) .state) k) .number ≡ 0)
+
+-- "Each with the cycles of its commands added": an entry takes none, since its claim changes no current priority and the interrupted
+-- request is above no core, its own having been the least; and no call takes more than 2m.
+abbrev pub EntryTakesNoCycle : Type 0
+EntryTakesNoCycle = (s : Routines) (k : CoreId) → (callRoutine s (Enter k)) .cycles ≡ 0
+
+abbrev pub CallCyclesBounded : Type 0
+CallCyclesBounded = (s : Routines) (c : RoutineCall) → (callRoutine s c) .cycles ≤ 2 * s .controller .m
 
 -- ---- both clauses, over every run
 
