@@ -1,4 +1,4 @@
--- What is claimed of the interrupt routines. Propositions only. Assumes nothing.
+-- What is claimed of the interrupt routines. Propositions only; each is proved in the crate `routine_laws`. Assumes nothing.
 -- Source: document 02, 4/14, in its order.
 use Prim.Native.Nat.{ℕ, _*_, _<_, _≤_, min}
 use mathlib.Core.Path.{_≡_}

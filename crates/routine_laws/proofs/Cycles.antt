@@ -28,15 +28,15 @@ use Rattle.effects.proofs.Kept.{cycles-bounded}
 use Rattle.effects.proofs.OneDelivery.{one-delivery}
 use Rattle.effects.proofs.CoreEffects.{claimedCores, current-same}
 use Rattle.effects.proofs.AtRest.{claim-answer}
 use Rattle.routines.specs.declared.Routines.{Routines}
 use Rattle.routines.specs.declared.RoutineCall.{RoutineCall}
 use Rattle.routines.specs.declared.RoutineCall.the-variants.{Direct, Enter, Exit}
 use Rattle.routines.specs.Routines.{activeAt, SoundRoutines, commandOf, callRefusal, claimOn, handBack, entered, completeOn, exited, commanded, acceptedCall}
 use Rattle.routines.specs.Statements.{EntryTakesNoCycle, CallCyclesBounded}
-use Rattle.routines.proofs.Answered.{by-call}
-use Rattle.routines.proofs.Standing.{sound-accepted, enter-checked, exit-checked}
-use Rattle.routines.proofs.EntryKept.{redelivers, interrupted-priority}
-use Rattle.routines.proofs.ExitKept.{completed, completed-m}
+use Rattle.routine_laws.proofs.Answered.{by-call}
+use Rattle.routine_laws.proofs.Standing.{sound-accepted, enter-checked, exit-checked}
+use Rattle.routine_laws.proofs.EntryKept.{redelivers, interrupted-priority}
+use Rattle.routine_laws.proofs.ExitKept.{completed, completed-m}
 
 none-and : (b : Bool) → b && false ≡ false
 none-and true = refl

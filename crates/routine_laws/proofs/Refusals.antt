@@ -13,14 +13,14 @@ use Rattle.model.specs.Records.{indexOf, sourceAt, coreAt}
 use Rattle.model.specs.Priorities.{topPriority}
 use Rattle.model.specs.Commands.{unless, refusalOf}
 use Rattle.model.specs.Statements.{turn}
 use Rattle.routines.specs.declared.Routines.{Routines}
 use Rattle.routines.specs.declared.DirectAction.the-variants.{SetPriority, Mask, Unmask, Trigger}
 use Rattle.routines.specs.declared.RoutineCall.{RoutineCall}
 use Rattle.routines.specs.declared.RoutineCall.the-variants.{Direct, Enter, Exit}
 use Rattle.routines.specs.Routines.{activeAt, SoundRoutines, callRefusalOf, callRefusal}
 use Rattle.routines.specs.Statements.{CallRow, not-sound, no-source, source-priority, is-pending, no-core-entered, empty-box, no-core-left, idle-core, CallRefusals, CallRefusalsExact}
-use Rattle.routines.proofs.Test.{routines-test-exact}
-use Rattle.routines.proofs.Answered.{number-answered}
+use Rattle.routine_laws.proofs.Test.{routines-test-exact}
+use Rattle.routine_laws.proofs.Answered.{number-answered}
 
 -- ---- three checks in a row
 

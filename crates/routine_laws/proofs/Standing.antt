@@ -20,11 +20,11 @@ use Rattle.model.specs.WellFormed.{WellFormed}
 use Rattle.model.specs.Commands.{unless, namesCore, refusalOf, refusal, settled, execute}
 use Rattle.well_formed.proofs.Test.{wellFormed-in}
 use Rattle.effects.proofs.Accepted.{execute-accepted}
 use Rattle.routines.specs.declared.Routines.{Routines}
 use Rattle.routines.specs.declared.RoutineCall.{RoutineCall}
 use Rattle.routines.specs.declared.RoutineCall.the-variants.{Enter, Exit}
 use Rattle.routines.specs.Routines.{activeAt, activeIndex, runs, soundRoutines, Runs, SoundRoutines, callRefusalOf, callRefusal}
-use Rattle.routines.proofs.Test.{runs-out, runs-in, routines-test-exact}
+use Rattle.routine_laws.proofs.Test.{runs-out, runs-in, routines-test-exact}
 
 module _ (s : Routines) (sound : SoundRoutines s) where
   past-none : (k : ℕ) → runs s k ≡ false → (i : ℕ) → ¬ Runs s i k

@@ -18,13 +18,13 @@ use Rattle.model.specs.Commands.{sourceAfter, refusal, execute}
 use Rattle.model.proofs.Claims.{claimed-out}
 use Rattle.effects.proofs.Checked.{SourceChecked, accepted, named-index}
 use Rattle.effects.proofs.Kept.{wellFormed-kept}
 use Rattle.routines.specs.declared.Routines.{Routines}
 use Rattle.routines.specs.declared.DirectAction.{DirectAction}
 use Rattle.routines.specs.declared.DirectAction.the-variants.{SetPriority, Mask, Unmask, Trigger}
 use Rattle.routines.specs.Routines.{activeAt, holderAt, activeIndex, routinesWith, Runs, SoundRoutines, actionOf, commandOf, holderAfter, commanded}
-use Rattle.routines.proofs.After.{SourceStep, source-step}
-use Rattle.routines.proofs.Standing.{running, same-core, idle-at-zero, active-le}
-use Rattle.routines.proofs.Switch.{Stays, TakenBy, switch-sound}
+use Rattle.routine_laws.proofs.After.{SourceStep, source-step}
+use Rattle.routine_laws.proofs.Standing.{running, same-core, idle-at-zero, active-le}
+use Rattle.routine_laws.proofs.Switch.{Stays, TakenBy, switch-sound}
 
 -- With record r written at index at, and these last holders: the source there is claimed if it was, and then its request and its last
 -- holder are the same.

@@ -25,14 +25,14 @@ use Rattle.model.specs.WellFormed.{WellFormed, Holding}
 use Rattle.model.specs.Commands.{refusal}
 use Rattle.effects.proofs.Kept.{wellFormed-kept}
 use Rattle.effects.proofs.AtRest.{claim-answer}
 use Rattle.routines.specs.declared.Routines.{Routines}
 use Rattle.routines.specs.declared.RoutineCall.the-variants.{Enter}
 use Rattle.routines.specs.Routines.{activeAt, activeIndex, routinesWith, Runs, SoundRoutines, claimOn, handBack, entered}
 use Rattle.routines.specs.Statements.{EntryAnswered}
-use Rattle.routines.proofs.Standing.{running, sound-accepted, enter-checked, answered}
-use Rattle.routines.proofs.After.{Claiming, claiming}
-use Rattle.routines.proofs.LetGo.{LetGo, none-goes, redeliver-accepted, redelivered-goes}
-use Rattle.routines.proofs.Switch.{Stays, TakenBy, Switch, switch-sound}
+use Rattle.routine_laws.proofs.Standing.{running, sound-accepted, enter-checked, answered}
+use Rattle.routine_laws.proofs.After.{Claiming, claiming}
+use Rattle.routine_laws.proofs.LetGo.{LetGo, none-goes, redeliver-accepted, redelivered-goes}
+use Rattle.routine_laws.proofs.Switch.{Stays, TakenBy, Switch, switch-sound}
 
 -- ---- redeliver, if there is an interrupted request
 

@@ -16,8 +16,8 @@ use Rattle.model.specs.Requests.{claimed}
 use Rattle.model.specs.WellFormed.{WellFormed}
 use Rattle.model.specs.Commands.{sourceAfter, refusalOf, refusal, execute}
 use Rattle.effects.proofs.Kept.{wellFormed-kept}
-use Rattle.routines.proofs.Standing.{command-accepted}
-use Rattle.routines.proofs.After.{SourceStep, source-step}
+use Rattle.routine_laws.proofs.Standing.{command-accepted}
+use Rattle.routine_laws.proofs.After.{SourceStep, source-step}
 
 pub record LetGo (s t : Controller) (id : ℕ) : Type 0 where
   pub well-formed : WellFormed t

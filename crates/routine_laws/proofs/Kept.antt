@@ -3,16 +3,16 @@
 use Prim.Native.Nat.{ℕ}
 use mathlib.Core.Path.{_≡_}
 use mathlib.Core.List.{List, [], _∷_}
 use Rattle.routines.specs.declared.Routines.{Routines}
 use Rattle.routines.specs.declared.RoutineCall.{RoutineCall}
 use Rattle.routines.specs.declared.RoutineCall.the-variants.{Direct, Enter, Exit}
 use Rattle.routines.specs.Routines.{commandOf, SoundRoutines, callRefusalOf, callRefusal, acceptedCall, afterRefusedCall, callRoutine, runRoutines}
 use Rattle.routines.specs.Statements.{RoutinesKept}
-use Rattle.routines.proofs.Answered.{by-call}
-use Rattle.routines.proofs.Standing.{sound-accepted, enter-checked, exit-checked, command-accepted}
-use Rattle.routines.proofs.DirectKept.{commanded-kept}
-use Rattle.routines.proofs.EntryKept.{entered-kept}
-use Rattle.routines.proofs.ExitKept.{exited-kept}
+use Rattle.routine_laws.proofs.Answered.{by-call}
+use Rattle.routine_laws.proofs.Standing.{sound-accepted, enter-checked, exit-checked, command-accepted}
+use Rattle.routine_laws.proofs.DirectKept.{commanded-kept}
+use Rattle.routine_laws.proofs.EntryKept.{entered-kept}
+use Rattle.routine_laws.proofs.ExitKept.{exited-kept}
 
 accepted-kept : (s : Routines) → SoundRoutines s → (c : RoutineCall) → callRefusalOf s c ≡ 0 → SoundRoutines ((acceptedCall s c) .state)
 unfolding callRefusalOf

@@ -19,14 +19,14 @@ use Rattle.model.specs.Priorities.{topPriority}
 use Rattle.model.specs.Requests.{claimed}
 use Rattle.model.specs.Commands.{refusalOf, refusal, execute}
 use Rattle.effects.proofs.Kept.{wellFormed-kept}
 use Rattle.routines.specs.declared.Routines.{Routines}
 use Rattle.routines.specs.declared.RoutineCall.the-variants.{Exit}
 use Rattle.routines.specs.Routines.{activeAt, activeIndex, routinesWith, Runs, SoundRoutines, completeOn, lower, exited}
 use Rattle.routines.specs.Statements.{ExitAnswered}
-use Rattle.routines.proofs.Standing.{running, sound-accepted, exit-checked, command-accepted, answered}
-use Rattle.routines.proofs.After.{n-after, m-after, lowered-claimed, lowered-priority, lowered-here, lowered-other}
-use Rattle.routines.proofs.LetGo.{LetGo, complete-accepted, completed-goes}
-use Rattle.routines.proofs.Switch.{Stays, Switch, switch-sound}
+use Rattle.routine_laws.proofs.Standing.{running, sound-accepted, exit-checked, command-accepted, answered}
+use Rattle.routine_laws.proofs.After.{n-after, m-after, lowered-claimed, lowered-priority, lowered-here, lowered-other}
+use Rattle.routine_laws.proofs.LetGo.{LetGo, complete-accepted, completed-goes}
+use Rattle.routine_laws.proofs.Switch.{Stays, Switch, switch-sound}
 
 module _ (s : Routines) (sound : SoundRoutines s) (k : CoreId) (k-lt : k .0 < s .controller .m) (busy : 0 < activeAt s (k .0)) where
   abbrev c : Controller

@@ -17,19 +17,19 @@ use Rattle.model.specs.declared.CoreId.{CoreId}
 use Rattle.model.specs.Records.{maxSources, maxCores, indexOf, coreAt, reset}
 use Rattle.model.specs.WellFormed.{Holding}
 use Rattle.effects.proofs.Checked.{Named, accepted}
 use Rattle.routines.specs.declared.Routines.{Routines}
 use Rattle.routines.specs.declared.DirectAction.{DirectAction}
 use Rattle.routines.specs.declared.DirectAction.the-variants.{SetPriority, Mask, Unmask, Trigger}
 use Rattle.routines.specs.declared.RoutineCall.{RoutineCall}
 use Rattle.routines.specs.declared.RoutineCall.the-variants.{Direct, Enter, Exit}
 use Rattle.routines.specs.Routines.{holderAt, commandOf, idleBeside, freshRoutines, SoundRoutines, callRefusalOf, callRefusal, claimOn, entered, exited, commanded, acceptedCall, afterRefusedCall, callRoutine, Handovers, cellAt, noHandovers, mostHandovers, oneMore, boxHolder, counted, tableAfter, runTable}
 use Rattle.routines.specs.History.{Event, heldBy, lastHolder, passesOn, handovers, eventOf, eventWith, historyAfter, history}
 use Rattle.routines.specs.Statements.{TableIsHistory, DiagonalZero}
-use Rattle.routines.proofs.Answered.{by-call}
-use Rattle.routines.proofs.Standing.{sound-accepted, enter-checked, command-accepted}
-use Rattle.routines.proofs.EntryKept.{claim-id}
-use Rattle.routines.proofs.Strict.{zeros, fresh-is}
-use Rattle.routines.proofs.Cells.{Whole, counts, cell-counted, whole-counted, one-more-held}
+use Rattle.routine_laws.proofs.Answered.{by-call}
+use Rattle.routine_laws.proofs.Standing.{sound-accepted, enter-checked, command-accepted}
+use Rattle.routine_laws.proofs.EntryKept.{claim-id}
+use Rattle.routine_laws.proofs.Strict.{zeros, fresh-is}
+use Rattle.routine_laws.proofs.Cells.{Whole, counts, cell-counted, whole-counted, one-more-held}
 
 pub record Tallied (s : Routines) (t : Handovers) (h : List Event) : Type 0 where
   pub whole : Whole t

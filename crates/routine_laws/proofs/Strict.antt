@@ -15,11 +15,11 @@ use Rattle.model.specs.Requests.{currentPriority, candidate, claimed}
 use Rattle.model.specs.Statements.{InRange}
 use Rattle.model.proofs.Claims.{claimed-out}
 use Rattle.well_formed.proofs.Reset.{core-reset, source-reset, reset-wellFormed, makes-exactly}
 use Rattle.routines.specs.declared.Routines.{Routines}
 use Rattle.routines.specs.Routines.{activeAt, activeIndex, idleBeside, freshRoutines, SoundRoutines}
 use Rattle.routines.specs.Statements.{FreshSound, StrictlyRun, NoneFilled, EveryRunStrict}
-use Rattle.routines.proofs.Standing.{running, idle-at-zero}
-use Rattle.routines.proofs.Kept.{run-sound}
+use Rattle.routine_laws.proofs.Standing.{running, idle-at-zero}
+use Rattle.routine_laws.proofs.Kept.{run-sound}
 
 pub zeros : (n i : ℕ) → getD {A = ℕ} (replicate n 0) i 0 ≡ 0
 zeros zero i = refl

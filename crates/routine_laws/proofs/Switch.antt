@@ -12,9 +12,9 @@ use native.Mathlib.Decide.{ℕ-discrete}
 use Rattle.model.specs.Records.{maxSources, maxCores, sourceAt, coreAt}
 use Rattle.model.specs.Requests.{claimed}
 use Rattle.model.specs.WellFormed.{WellFormed}
 use Rattle.routines.specs.declared.Routines.{Routines}
 use Rattle.routines.specs.Routines.{activeAt, holderAt, Runs, RunsOnce, IdleAt, SoundRoutines}
-use Rattle.routines.proofs.Standing.{same-core}
+use Rattle.routine_laws.proofs.Standing.{same-core}
 
 -- The request of source i + 1 is claimed in t as in s, with the same priority and the same last holder.
 pub record Stays (s t : Routines) (i : ℕ) : Type 0 where
