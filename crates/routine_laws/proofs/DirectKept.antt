@@ -69,13 +69,16 @@ module _ (s : Routines) (sound : SoundRoutines s) (at : ℕ) (at-in : at < s .co
             read-set (λ x. x ≤ s .controller .m) (s .holder) at i 0 0 fits (λ u. omega arith) (λ u. sound .holders-inside i l);
       }
 
-  same : (a : DirectAction) → SourceChecked (s .controller) at (actionOf a) → Same s at (sourceAfter (actionOf a) q) (holderAfter a at (s .holder))
+  same :
+      (a : DirectAction) → SourceChecked (s .controller) at (actionOf a) →
+      Same s at (sourceAfter (actionOf a) q) (holderAfter a at (s .holder))
   same (SetPriority p) h = set-same p (q .masked)
   same Mask h = set-same (q .configured) true
   same Unmask h = set-same (q .configured) false
   same Trigger idle = opened-same idle
 
-module _ (s : Routines) (sound : SoundRoutines s) (id : SourceId) (a : DirectAction) (e : refusal (s .controller) (commandOf id a) ≡ 0) where
+module _ (s : Routines) (sound : SoundRoutines s) (id : SourceId) (a : DirectAction)
+    (e : refusal (s .controller) (commandOf id a) ≡ 0) where
   abbrev r : Source
   r = sourceAfter (actionOf a) (sourceAt (s .controller) (indexOf id))
 

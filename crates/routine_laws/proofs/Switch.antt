@@ -62,7 +62,8 @@ module _ {s t : Routines} {k a : ℕ} (sound : SoundRoutines s) (x : Switch s t 
   before : (i j : ℕ) → Runs t i j → j ≢ k → Runs s i j × (suc i ≢ activeAt s k)
   before i j r p =
       let active : activeAt s j ≡ suc i = sym (x .elsewhere j p) ∙ r .active in
-      let (e, q) = x .claimed-before i (in-s (r .source-in)) (λ z. x .apart j (core-of (r .core-in)) p (omega arith) (active ∙ z)) (r .is-claimed) in
+      let ne : suc i ≢ a = λ z. x .apart j (core-of (r .core-in)) p (omega arith) (active ∙ z) in
+      let (e, q) = x .claimed-before i (in-s (r .source-in)) ne (r .is-claimed) in
       (record { core-in = core-of (r .core-in); source-in = in-s (r .source-in); is-claimed = e; active = active }, q)
 
   -- and goes on there

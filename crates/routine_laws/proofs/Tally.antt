@@ -16,6 +16,7 @@ use Rattle.model.specs.declared.SourceId.{SourceId}
 use Rattle.model.specs.declared.CoreId.{CoreId}
 use Rattle.model.specs.Records.{maxSources, maxCores, indexOf, coreAt, reset}
 use Rattle.model.specs.WellFormed.{Holding}
+use Rattle.model.specs.Commands.{refusal}
 use Rattle.effects.proofs.Checked.{Named, accepted}
 use Rattle.routines.specs.declared.Routines.{Routines}
 use Rattle.routines.specs.declared.DirectAction.{DirectAction}
@@ -64,7 +65,8 @@ module _ (s u : Routines) (t : Handovers) (h : List Event) (x : Tallied s t h) (
       }
 
 -- a last holder that is written where the history has the source's id
-module _ (s : Routines) (sound : SoundRoutines s) (h : List Event) (same : (i : ℕ) → i < maxSources → holderAt s i ≡ lastHolder h (suc i)) where
+module _ (s : Routines) (sound : SoundRoutines s) (h : List Event)
+    (same : (i : ℕ) → i < maxSources → holderAt s i ≡ lastHolder h (suc i)) where
   written :
       (id v : ℕ) → 1 ≤ id → id ≤ s .controller .n → (i : ℕ) → i < maxSources →
       getD (set (s .holder) (pred id) v) i 0 ≡ cond (eqb id (suc i)) v (lastHolder h (suc i))
@@ -139,7 +141,8 @@ module _ (s : Routines) (sound : SoundRoutines s) (t : Handovers) (h : List Even
           cells = λ r c. rw e (cell-after r c);
         }
 
-    entered-tallied : Tallied ((entered s k) .state) (counted t (boxHolder s (k .0)) (k .0)) (eventWith (Enter k) 0 ((entered s k) .id .0) ∷ h)
+    entered-tallied :
+        Tallied ((entered s k) .state) (counted t (boxHolder s (k .0)) (k .0)) (eventWith (Enter k) 0 ((entered s k) .id .0) ∷ h)
     unfolding entered
     entered-tallied = entered-by ((entered s k) .state) ((claimOn s k) .id .0) (claim-id s sound k k-lt filled) refl
 
@@ -151,7 +154,9 @@ module _ (s : Routines) (t : Handovers) (h : List Event) (x : Tallied s t h) whe
   unfolding tableAfter callRefusalOf commanded entered exited
   accepted-tallied (Direct id a) e =
       let (sound, checks) = sound-accepted s (Direct id a) e in
-      let (w, (n, g)) = accepted (s .controller) (commandOf id a) (command-accepted (s .controller) (commandOf id a) (sound .controller) checks) in
+      let passes : refusal (s .controller) (commandOf id a) ≡ 0 =
+      command-accepted (s .controller) (commandOf id a) (sound .controller) checks in
+      let (w, (n, g)) = accepted (s .controller) (commandOf id a) passes in
       commanded-tallied s sound t h x id a n
   accepted-tallied (Enter k) e =
       let (sound, checks) = sound-accepted s (Enter k) e in
