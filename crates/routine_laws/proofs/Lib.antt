@@ -1,6 +1,7 @@
 -- What holds of the interrupt routines.
 --   Test          the computed test means its proposition
 --   Answered      what an accepted and a refused call answer; a refused one changes nothing
+--   Checks        checks in a row give the number of the first that fails
 --   Refusals      each number for no is given exactly when its line says
 --   Standing      what a sound simulation says of its cores, and what an accepted call has found
 --   Switch        a step on one core keeps the simulation sound
@@ -12,6 +13,7 @@
 --   Cells, Tally  the table of handovers is the count in the history
 pub mod Test
 pub mod Answered
+pub mod Checks
 pub mod Refusals
 pub mod Standing
 pub mod Switch
