@@ -1,0 +1,29 @@
+-- What holds of the interrupt routines.
+--   Test          the computed test means its proposition
+--   Answered      what an accepted and a refused call answer; a refused one changes nothing
+--   Checks        checks in a row give the number of the first that fails
+--   Refusals      each number for no is given exactly when its line says
+--   Standing      what a sound simulation says of its cores, and what an accepted call has found
+--   Switch        a step on one core keeps the simulation sound
+--   After         what an accepted command of the controller does to claimed requests
+--   LetGo         redeliver and complete let a claimed request go
+--   DirectKept, EntryKept, ExitKept, Kept    every call keeps the simulation sound, and the commands inside are accepted
+--   Cycles        the cycles of a call
+--   Strict        a fresh simulation is sound; both clauses after every run
+--   Cells, Tally  the table of handovers is the count in the history
+pub mod Test
+pub mod Answered
+pub mod Checks
+pub mod Refusals
+pub mod Standing
+pub mod Switch
+pub mod After
+pub mod LetGo
+pub mod DirectKept
+pub mod EntryKept
+pub mod ExitKept
+pub mod Kept
+pub mod Cycles
+pub mod Strict
+pub mod Cells
+pub mod Tally
