@@ -18,7 +18,7 @@ use Rattle.routines.specs.declared.DirectAction.the-variants.{SetPriorit
 use Rattle.routines.specs.declared.RoutineCall.{RoutineCall}
 use Rattle.routines.specs.declared.RoutineCall.the-variants.{Direct, Enter, Exit}
 use Rattle.routines.specs.declared.RoutineAnswer.{RoutineAnswer}
-use Rattle.routines.specs.Routines.{activeAt, freshRoutines, soundRoutines, Runs, IdleAt, SoundRoutines, claimOn, handBack, completeOn, lower, afterRefusedCall, routineAnswer, callRefusal, callRoutine, cellAt, noHandovers, mostHandovers, runRoutines, runTable}
+use Rattle.routines.specs.Routines.{activeAt, freshRoutines, soundRoutines, Runs, IdleAt, SoundRoutines, claimOn, handBack, completeOn, lower, afterRefusedCall, routineAnswer, callRefusal, callRoutine, Handovers, cellAt, noHandovers, mostHandovers, tableAfter, runRoutines, runTable}
 use Rattle.routines.specs.History.{handovers, history}
 
 -- ---- soundness
@@ -56,6 +56,10 @@ abbrev pub RefusedCallUnchanged : Type 0
 RefusedCallUnchanged =
     (s : Routines) (c : RoutineCall) → (callRoutine s c) .number ≢ 0 →
     callRoutine s c ≡ routineAnswer (afterRefusedCall s c ((callRoutine s c) .number)) ((callRoutine s c) .number) 0 0
+
+-- and no handover is counted.
+abbrev pub RefusedUncounted : Type 0
+RefusedUncounted = (t : Handovers) (s : Routines) (c : RoutineCall) → (callRoutine s c) .number ≢ 0 → tableAfter t s c ≡ t
 
 -- ---- every call keeps the simulation sound
 
