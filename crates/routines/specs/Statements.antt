@@ -57,7 +57,7 @@ RefusedCallUnchanged =
     (s : Routines) (c : RoutineCall) → (callRoutine s c) .number ≢ 0 →
     callRoutine s c ≡ routineAnswer (afterRefusedCall s c ((callRoutine s c) .number)) ((callRoutine s c) .number) 0 0
 
--- and no handover is counted.
+-- Nor does it count a handover.
 abbrev pub RefusedUncounted : Type 0
 RefusedUncounted = (t : Handovers) (s : Routines) (c : RoutineCall) → (callRoutine s c) .number ≢ 0 → tableAfter t s c ≡ t
 
