@@ -1,5 +1,6 @@
 -- What an accepted command of the controller does to claimed requests, to their priorities and to configured priorities. Assumes nothing.
---   n-after, m-after, configured-after, priority-after, claimed-after    of any command: as its effect has it before settling
+--   n-after, m-after, configured-after, priority-after, pending-after, claimed-after
+--                               of any command: as its effect has it before settling
 --   SourceStep, source-step     of a command on a source: the cores stay, and the other sources
 --   Claiming, claiming          of a claim: the box's request becomes claimed, at the core's configured priority
 --   lowered-..                  of set core priority: no request is claimed or let go
@@ -31,7 +32,7 @@ use Rattle.model.specs.Commands.{soiled, claimedCore, sourceAfter, effect, refu
 use Rattle.model.proofs.Claims.{claimed-out}
 use Rattle.model.proofs.Boxes.{holds-in, holds-filled, holds-source, boxed-in, unboxed-in, boxed-agree}
 use Rattle.settling.specs.Phases.{Kept}
-use Rattle.settling.proofs.Keeps.{kept-n, kept-m, kept-priority, kept-core-configured, settling-leaves-bare}
+use Rattle.settling.proofs.Keeps.{kept-n, kept-m, kept-pending, kept-priority, kept-core-configured, settling-leaves-bare}
 use Rattle.effects.proofs.Accepted.{execute-accepted}
 use Rattle.effects.proofs.Checked.{accepted, named-index}
 use Rattle.effects.proofs.Effects.{effect-sizes}
@@ -63,6 +64,9 @@ module _ (s : Controller) (o : Command) (e : refusal s o ≡ 0) where
 
   pub priority-after : (i : ℕ) → (sourceAt t i) .priority ≡ (sourceAt (effect s o) i) .priority
   priority-after i = kept-priority (effect s o) t kept i
+
+  pub pending-after : (i : ℕ) → (sourceAt t i) .pending ≡ (sourceAt (effect s o) i) .pending
+  pending-after i = kept-pending (effect s o) t kept i
 
   pub claimed-after : (i : ℕ) → i < s .n → claimed t i ≡ claimed (effect s o) i
   claimed-after i h =

@@ -1,8 +1,9 @@
--- What an accepted and a refused call answer, and that a refused one changes nothing (`RefusedCallUnchanged`). Assumes nothing.
+-- What an accepted and a refused call answer, and that a refused one changes nothing (`RefusedCallUnchanged`) and counts
+-- nothing (`RefusedUncounted`). Assumes nothing.
 --   call-accepted, call-refused   the answer, by whether the number for no is 0
 --   by-call                       what holds of both answers holds of every call's
 --   number-answered               the number answered is the refusal's
-use mathlib.Core.Path.{_≡_, refl}
+use mathlib.Core.Path.{_≡_, refl, _∙_}
 use mathlib.Core.Logic.{_≢_}
 use native.Mathlib.Decide.{ℕ-discrete}
 use borrow.Author.Tests.{eq-eqb, ne-eqb}
@@ -10,8 +11,8 @@ use Rattle.routines.specs.declared.Routines.{Routines}
 use Rattle.routines.specs.declared.RoutineCall.{RoutineCall}
 use Rattle.routines.specs.declared.RoutineCall.the-variants.{Direct, Enter, Exit}
 use Rattle.routines.specs.declared.RoutineAnswer.{RoutineAnswer}
-use Rattle.routines.specs.Routines.{callRefusal, entered, exited, commanded, acceptedCall, refusedCall, afterRefusedCall, routineAnswer, callRoutine}
-use Rattle.routines.specs.Statements.{RefusedCallUnchanged}
+use Rattle.routines.specs.Routines.{callRefusal, entered, exited, commanded, acceptedCall, refusedCall, afterRefusedCall, routineAnswer, callRoutine, tableAfter}
+use Rattle.routines.specs.Statements.{RefusedCallUnchanged, RefusedUncounted}
 
 accepted-number : (s : Routines) (c : RoutineCall) → (acceptedCall s c) .number ≡ 0
 unfolding entered exited commanded
@@ -45,3 +46,9 @@ refused-call-unchanged s c =
     by-call s c (λ a. a .number ≢ 0 → a ≡ routineAnswer (afterRefusedCall s c (a .number)) (a .number) 0 0)
     (λ e h. absurd (h (accepted-number s c)))
     (λ h n. refl)
+
+pub refused-uncounted : RefusedUncounted
+unfolding tableAfter
+refused-uncounted t s (Direct id a) h = refl
+refused-uncounted t s (Enter k) h = rw (ne-eqb (callRefusal s (Enter k)) 0 (λ e. h (number-answered s (Enter k) ∙ e)))
+refused-uncounted t s (Exit k) h = refl

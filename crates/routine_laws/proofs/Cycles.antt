@@ -1,6 +1,7 @@
 -- The cycles of a call: an entry takes none (`EntryTakesNoCycle`), and no call takes more than 2m (`CallCyclesBounded`). Assumes nothing.
 --   still-cycles       a command on a source whose request is above no core, or isn't a candidate, takes no cycle
 --   completed-cycles   complete takes none
+--   entered-waits      the request that an entry interrupts waits
 use Prim.Native.Nat.{ℕ, zero, suc, _*_, _<_, _≤_}
 use mathlib.Core.Path.{_≡_, refl, _∙_, ap}
 use mathlib.Core.Bool.{Bool, true, false, _&&_}
@@ -18,10 +19,12 @@ use Rattle.model.specs.declared.SourceAction.{SourceAction}
 use Rattle.model.specs.declared.SourceAction.the-variants.{Redeliver, Complete}
 use Rattle.model.specs.declared.CoreAction.the-variants.{SetCorePriority}
 use Rattle.model.specs.Records.{noSource, sourceId, indexOf, sourceAt, coreAt, withSource, withCores}
-use Rattle.model.specs.Requests.{currentPriority, candidate}
+use Rattle.model.specs.Requests.{currentPriority, waiting, candidate}
 use Rattle.model.specs.Arbitration.{least}
 use Rattle.model.specs.Settling.{interruptedBy}
 use Rattle.model.specs.Commands.{sourceAfter, effect, refusal, execute}
+use Rattle.lists.proofs.Bools.{and-in}
+use Rattle.model.proofs.Claims.{claimed-out}
 use Rattle.arbitration.proofs.LeastCore.{least-below}
 use Rattle.effects.proofs.Checked.{accepted, named-index}
 use Rattle.effects.proofs.Kept.{cycles-bounded}
@@ -60,14 +63,29 @@ module _ (s : Controller) (id : SourceId) (a : SourceAction) (e : refusal s (OnS
   still-cycles off =
       ap (λ (x : Answer). x .cycles) (one-delivery s id a e) ∙ rw (written, off)
 
+  still-state : interruptedBy (coreAt s low) after ≡ false → (execute s (OnSource id a)) .state ≡ withSource s (indexOf id) after
+  unfolding effect
+  still-state off =
+      ap (λ (x : Answer). x .state) (one-delivery s id a e) ∙ rw (written, off)
+
   idle-cycles : candidate after ≡ false → (execute s (OnSource id a)) .cycles ≡ 0
   idle-cycles off = still-cycles (rw off)
 
-  low-cycles : ((k : ℕ) → k < s .m → after .priority ≤ currentPriority (coreAt s k)) → (execute s (OnSource id a)) .cycles ≡ 0
-  low-cycles below =
+  -- at most every core's current priority
+  abbrev AtMost : Type 0
+  AtMost = (k : ℕ) → k < s .m → after .priority ≤ currentPriority (coreAt s k)
+
+  low-still : AtMost → interruptedBy (coreAt s low) after ≡ false
+  low-still below =
       let (w, c) = accepted s (OnSource id a) e in
-      still-cycles (rw (le-ltb (currentPriority (coreAt s low)) (after .priority)
-      (below low (least-below (s .cores) (s .m) (w .consistent .some-core)))) (none-and (candidate after)))
+      rw (le-ltb (currentPriority (coreAt s low)) (after .priority)
+      (below low (least-below (s .cores) (s .m) (w .consistent .some-core)))) (none-and (candidate after))
+
+  low-cycles : AtMost → (execute s (OnSource id a)) .cycles ≡ 0
+  low-cycles below = still-cycles (low-still below)
+
+  low-source : AtMost → sourceAt ((execute s (OnSource id a)) .state) (indexOf id) ≡ after
+  low-source below = rw (still-state (low-still below)) written
 
 completed-cycles : (s : Controller) (id : SourceId) → refusal s (OnSource id Complete) ≡ 0 → (execute s (OnSource id Complete)) .cycles ≡ 0
 completed-cycles s id e = idle-cycles s id Complete e refl
@@ -89,17 +107,39 @@ module _ (s : Routines) (sound : SoundRoutines s) (k : CoreId) (k-lt : k .0 < s 
   same-m = ap (λ (x : Controller). x .m) claimed-state
 
   -- the interrupted request has the priority that its box covers
-  handed-cycles : (id : ℕ) → id ≡ activeAt s (k .0) → (handBack ((claimOn s k) .state) id) .cycles ≡ 0
-  handed-cycles zero is = refl
-  handed-cycles (suc i) is =
-      rw (ne-eqb (suc i) 0 (λ z. absurd (omega arith)))
-      (low-cycles ((claimOn s k) .state) (sourceId (suc i)) Redeliver (redelivers s sound k k-lt filled i is)
-      (λ j l. omega (
+  covered :
+      (i : ℕ) → suc i ≡ activeAt s (k .0) → (j : ℕ) → j < (claimOn s k) .state .m →
+      (sourceAt ((claimOn s k) .state) i) .priority ≤ currentPriority (coreAt ((claimOn s k) .state) j)
+  covered i is j l =
+      omega (
         arith,
         same-current j,
         interrupted-priority s sound k k-lt filled i is,
         sound .controller .quiet .covered-settled (k .0) j k-lt (omega (arith, same-m)) filled,
-      )))
+      )
+
+  handed-cycles : (id : ℕ) → id ≡ activeAt s (k .0) → (handBack ((claimOn s k) .state) id) .cycles ≡ 0
+  handed-cycles zero is = refl
+  handed-cycles (suc i) is =
+      rw (ne-eqb (suc i) 0 (λ z. absurd (omega arith)))
+      (low-cycles ((claimOn s k) .state) (sourceId (suc i)) Redeliver (redelivers s sound k k-lt filled i is) (covered i is))
+
+  handed-waits :
+      (id : ℕ) → id ≡ activeAt s (k .0) → (i : ℕ) → id ≡ suc i →
+      waiting (sourceAt ((handBack ((claimOn s k) .state) id) .state) i) ≡ true
+  handed-waits zero is i q = absurd (omega arith)
+  handed-waits (suc j) is i q =
+      let same : i ≡ j = omega arith in
+      let e : refusal ((claimOn s k) .state) (OnSource (sourceId (suc j)) Redeliver) ≡ 0 = redelivers s sound k k-lt filled j is in
+      let (w, (h, taken)) = accepted ((claimOn s k) .state) (OnSource (sourceId (suc j)) Redeliver) e in
+      rw
+      (same, ne-eqb (suc j) 0 (λ z. absurd (omega arith)), low-source ((claimOn s k) .state) (sourceId (suc j)) Redeliver e (covered j is))
+      (and-in (claimed-out ((claimOn s k) .state) j taken .0) refl)
+
+  pub entered-waits :
+      (i : ℕ) → activeAt s (k .0) ≡ suc i → waiting (sourceAt ((entered s k) .state .controller) i) ≡ true
+  unfolding entered
+  entered-waits i q = handed-waits (activeAt s (k .0)) refl i q
 
   entered-cycles : (entered s k) .cycles ≡ 0
   unfolding entered

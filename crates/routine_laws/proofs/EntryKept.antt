@@ -188,6 +188,17 @@ module _ (s : Routines) (sound : SoundRoutines s) (k : CoreId) (k-lt : k .0 < s 
       subst (λ id. SoundRoutines (routinesWith c″ (set (s .active) (k .0) id) (set (s .holder) (pred id) (suc (k .0))))) (sym claim-id)
       (switch-sound sound switched)
 
+  pub entered-active : activeAt ((entered s k) .state) (k .0) ≡ (claimOn s k) .id .0
+  unfolding entered
+  entered-active = getD-set-same (s .active) (k .0) ((claimOn s k) .id .0) 0 fits
+
+  pub entered-m : (entered s k) .state .controller .m ≡ s .controller .m
+  unfolding entered
+  entered-m = switched .m-same
+
+  pub some-box : (coreAt (s .controller) (k .0)) .message .source .0 ≢ 0
+  some-box z = absurd (omega (arith, z, names))
+
   pub entry-numbers : ((claimOn s k) .number ≡ 0) × ((handBack ((claimOn s k) .state) (activeAt s (k .0))) .number ≡ 0)
   entry-numbers = (
     ap (λ (a : Answer). a .number) (claim-answer c (sound .controller) k k-lt filled),

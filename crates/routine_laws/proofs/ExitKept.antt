@@ -61,7 +61,7 @@ module _ (s : Routines) (sound : SoundRoutines s) (k : CoreId) (k-lt : k .0 < s 
   unfolding refusalOf
   lower-checks = rw (lt-ltb (k .0) (c′ .m) (omega (arith, k-lt, goes .m-same)), le-leb 0 (topPriority (c′ .n)) (omega arith))
 
-  lowered : refusal c′ (OnCore k (SetCorePriority 0)) ≡ 0
+  pub lowered : refusal ((completeOn s k) .state) (OnCore k (SetCorePriority 0)) ≡ 0
   lowered = command-accepted c′ (OnCore k (SetCorePriority 0)) (goes .well-formed) lower-checks
 
   fits : k .0 < length (s .active)
@@ -108,6 +108,14 @@ module _ (s : Routines) (sound : SoundRoutines s) (k : CoreId) (k-lt : k .0 < s 
   pub exited-kept : SoundRoutines ((exited s k) .state)
   unfolding exited
   exited-kept = switch-sound sound switched
+
+  pub exited-active : activeAt ((exited s k) .state) (k .0) ≡ 0
+  unfolding exited
+  exited-active = getD-set-same (s .active) (k .0) 0 0 fits
+
+  pub exited-m : (exited s k) .state .controller .m ≡ s .controller .m
+  unfolding exited
+  exited-m = switched .m-same
 
   pub exit-numbers : ((completeOn s k) .number ≡ 0) × ((lower ((completeOn s k) .state) k) .number ≡ 0)
   exit-numbers = (answered c (OnSource (sourceId prev) Complete) completed, answered c′ (OnCore k (SetCorePriority 0)) lowered)

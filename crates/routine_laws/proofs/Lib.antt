@@ -9,6 +9,7 @@
 --   LetGo         redeliver and complete let a claimed request go
 --   DirectKept, EntryKept, ExitKept, Kept    every call keeps the simulation sound, and the commands inside are accepted
 --   Cycles        the cycles of a call
+--   Taken         what runs and what waits after an entry and after an exit
 --   Strict        a fresh simulation is sound; both clauses after every run
 --   Cells, Tally  the table of handovers is the count in the history
 pub mod Test
@@ -24,6 +25,7 @@ pub mod EntryKept
 pub mod ExitKept
 pub mod Kept
 pub mod Cycles
+pub mod Taken
 pub mod Strict
 pub mod Cells
 pub mod Tally

@@ -41,7 +41,8 @@ module _ (s : Routines) where
     abbrev Named : Type 0
     Named = (1 ≤ id .0) × (id .0 ≤ s .controller .n)
 
-    id-first : {number : ℕ} {R : ℕ → Type 0} → Chain 2 number R → Chain 1 (unless (namesSource (s .controller) id) 4 number) (Next Named 4 R)
+    id-first :
+        {number : ℕ} {R : ℕ → Type 0} → Chain 2 number R → Chain 1 (unless (namesSource (s .controller) id) 4 number) (Next Named 4 R)
     id-first row = check 4 (omega arith) (omega arith) (between-exact 1 (s .controller .n) (id .0)) row
 
     setting-exact : (p : ℕ) → CallRefusals (callRefusal s (Direct id (SetPriority p))) s (Direct id (SetPriority p))
@@ -109,7 +110,8 @@ module _ (s : Routines) where
     abbrev Inside : Type 0
     Inside = k .0 < s .controller .m
 
-    core-first : {number : ℕ} {R : ℕ → Type 0} → Chain 2 number R → Chain 1 (unless (namesCore (s .controller) k) 3 number) (Next Inside 3 R)
+    core-first :
+        {number : ℕ} {R : ℕ → Type 0} → Chain 2 number R → Chain 1 (unless (namesCore (s .controller) k) 3 number) (Next Inside 3 R)
     core-first row = check 3 (omega arith) (omega arith) (ltb-exact (k .0) (s .controller .m)) row
 
     abbrev filled : Bool

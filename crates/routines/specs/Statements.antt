@@ -1,6 +1,6 @@
 -- What is claimed of the interrupt routines. Propositions only; each is proved in the crate `routine_laws`. Assumes nothing.
 -- Source: document 02, 4/14, in its order.
-use Prim.Native.Nat.{ℕ, _*_, _<_, _≤_, min}
+use Prim.Native.Nat.{ℕ, suc, _*_, _<_, _≤_, min}
 use mathlib.Core.Path.{_≡_}
 use mathlib.Core.Logic.{_↔_, _≢_}
 use mathlib.Core.List.{List}
@@ -9,7 +9,7 @@ use Rattle.model.specs.declared.SourceId.{SourceId}
 use Rattle.model.specs.declared.CoreId.{CoreId}
 use Rattle.model.specs.Records.{indexOf, sourceAt, coreAt}
 use Rattle.model.specs.Priorities.{topPriority}
-use Rattle.model.specs.Requests.{candidate}
+use Rattle.model.specs.Requests.{waiting, candidate}
 use Rattle.model.specs.Commands.{malformed, badCore, badSource, badPriority, alreadyPending, nothingToClaim, notClaimed}
 use Rattle.model.specs.Statements.{InRange, turn}
 use Rattle.routines.specs.declared.Routines.{Routines}
@@ -17,7 +17,8 @@ use Rattle.routines.specs.declared.DirectAction.{DirectAction}
 use Rattle.routines.specs.declared.DirectAction.the-variants.{SetPriority, Trigger}
 use Rattle.routines.specs.declared.RoutineCall.{RoutineCall}
 use Rattle.routines.specs.declared.RoutineCall.the-variants.{Direct, Enter, Exit}
-use Rattle.routines.specs.Routines.{activeAt, freshRoutines, soundRoutines, Runs, SoundRoutines, claimOn, handBack, completeOn, lower, afterRefusedCall, routineAnswer, callRefusal, callRoutine, cellAt, noHandovers, mostHandovers, runRoutines, runTable}
+use Rattle.routines.specs.declared.RoutineAnswer.{RoutineAnswer}
+use Rattle.routines.specs.Routines.{activeAt, freshRoutines, soundRoutines, Runs, IdleAt, SoundRoutines, claimOn, handBack, completeOn, lower, afterRefusedCall, routineAnswer, callRefusal, callRoutine, Handovers, cellAt, noHandovers, mostHandovers, tableAfter, runRoutines, runTable}
 use Rattle.routines.specs.History.{handovers, history}
 
 -- ---- soundness
@@ -56,6 +57,10 @@ RefusedCallUnchanged =
     (s : Routines) (c : RoutineCall) → (callRoutine s c) .number ≢ 0 →
     callRoutine s c ≡ routineAnswer (afterRefusedCall s c ((callRoutine s c) .number)) ((callRoutine s c) .number) 0 0
 
+-- Nor does it count a handover.
+abbrev pub RefusedUncounted : Type 0
+RefusedUncounted = (t : Handovers) (s : Routines) (c : RoutineCall) → (callRoutine s c) .number ≢ 0 → tableAfter t s c ≡ t
+
 -- ---- every call keeps the simulation sound
 
 abbrev pub RoutinesKept : Type 0
@@ -71,6 +76,24 @@ abbrev pub ExitAnswered : Type 0
 ExitAnswered =
     (s : Routines) (k : CoreId) → callRefusal s (Exit k) ≡ 0 →
     ((completeOn s k) .number ≡ 0) × ((lower ((completeOn s k) .state) k) .number ≡ 0)
+
+-- After an accepted entry the request of the box, whose id it answers, runs on the core; the interrupted one waits.
+pub record EnteredOn (s : Routines) (k : CoreId) (a : RoutineAnswer) : Type 0 where
+  pub answers-box : a .id .0 ≡ (coreAt (s .controller) (k .0)) .message .source .0
+  pub runs : (i : ℕ) → a .id .0 ≡ suc i → Runs (a .state) i (k .0)
+  pub some-id : a .id .0 ≢ 0
+  pub interrupted : (i : ℕ) → activeAt s (k .0) ≡ suc i → waiting (sourceAt (a .state .controller) i) ≡ true
+
+abbrev pub EntryTakes : Type 0
+EntryTakes = (s : Routines) (k : CoreId) → callRefusal s (Enter k) ≡ 0 → EnteredOn s k (callRoutine s (Enter k))
+
+-- After an accepted exit the core is idle at 0, and its request is completed.
+pub record LeftOn (s : Routines) (k : CoreId) (a : RoutineAnswer) : Type 0 where
+  pub idles : IdleAt (a .state) (k .0)
+  pub completed : (i : ℕ) → activeAt s (k .0) ≡ suc i → (sourceAt (a .state .controller) i) .pending ≡ false
+
+abbrev pub ExitLeaves : Type 0
+ExitLeaves = (s : Routines) (k : CoreId) → callRefusal s (Exit k) ≡ 0 → LeftOn s k (callRoutine s (Exit k))
 
 -- "Each with the cycles of its commands added": an entry takes none, since its claim changes no current priority and the interrupted
 -- request is above no core, its own having been the least; and no call takes more than 2m.
