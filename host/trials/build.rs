@@ -1,4 +1,4 @@
-//! Has the linker hand the tests' calls of the library to tests/slips/mod.rs, which passes them on.
+//! Has the linker hand the tests' calls of the library to tests/slips, which passes them on.
 
 fn main() {
     println!("cargo:rerun-if-changed=build.rs");
@@ -11,6 +11,10 @@ fn main() {
         "psic_claim_in_place",
         "psic_read",
         "psic_replay",
+        "psic_make_routines",
+        "psic_enter",
+        "psic_exit",
+        "psic_simulate",
     ] {
         println!("cargo:rustc-link-arg-tests=-Wl,--wrap={call}");
     }

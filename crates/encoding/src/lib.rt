@@ -8,7 +8,7 @@ ghost use lib.ListN.{length};
 ghost use lib.Seq.{sets};
 ghost use Rattle.layout.specs.Commands.{sourceNumber, coreNumber, sourceLevel, coreLevel, numberOf, targetOf, levelOf};
 ghost use Rattle.layout.specs.Bytes.{word, flagByte, sourceSize, coreSize, stateSize, commandSize, answerSize};
-ghost use Rattle.layout.specs.Bytes.{sourcesFrom, coresFrom, sourceBytes, coreBytes, stateBytes, commandBytes};
+ghost use Rattle.layout.specs.Bytes.{sourcesFrom, coresFrom, sourceBytes, coreBytes, stateBytes, commandBytes, answerRow, packedAs};
 use layout::BOX_DIRTY;
 use layout::BOX_FILLED;
 use layout::BOX_PRIORITY;
@@ -115,11 +115,18 @@ pub fn put_state(b: &mut [u8], s: Controller)
 // Number, id and cycles of an answer.
 pub fn put_answer(b: &mut [u8], i: usize, number: u8, id: SourceId, cycles: u16)
     requires { ⌜ i + answerSize ≤ length (now b) ⌝ }
-    ensures { λ r. ⌜ now (b .exit) ≡ sets (now (b .entry)) i (number ∷ (word (id .0) ++ word cycles)) ⌝ }
+    ensures { λ r. ⌜ now (b .exit) ≡ sets (now (b .entry)) i (answerRow number (id .0) cycles) ⌝ }
 {
     b[i] = number;
     put_word(b, i + 1, id.0);
     put_word(b, i + 3, cycles);
+}
+
+// The same as one number, in 8, 16 and 16 binary digits, the number lowest.
+pub fn packed(number: u8, id: SourceId, cycles: u16) -> u64
+    ensures { λ r. ⌜ r ≡ packedAs number (id .0) cycles ⌝ }
+{
+    number as u64 + 256 * (id.0 as u64 + 65536 * (cycles as u64))
 }
 
 fn numbers_with(number: u8, target: u16, level: u16) -> Numbers

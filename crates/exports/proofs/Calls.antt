@@ -1,11 +1,12 @@
 -- What each call answers and writes, from what the functions that it calls hand back. Assumes nothing.
 --   make-unfit, make-refused, make-answered       `makeCall`
 --   bad-bytes, bad-number, execute-went           `executeCall`
---   run-fit, run-unfit, run-by, run-refused       `runCall`: a run, none, either; Running has a run command by command
+--   run-fit, run-unfit, run-by                    `runCall`: a run, none, either
+--   run-ran, run-unread, run-no-room              the same from what the loop has left, and from the tests before it
 use Prim.Native.Nat.{ℕ, _+_, _*_}
 use mathlib.Core.Path.{_≡_, refl, sym, _∙_, ap, subst}
 use mathlib.Core.List.{List}
-use mathlib.Core.Bool.{Bool, true, false}
+use mathlib.Core.Bool.{Bool, true, false, and-false}
 use lib.ListN.{length}
 use lib.Seq.{sets}
 use borrow.Author.Tests.{eq-eqb, ne-eqb}
@@ -17,8 +18,9 @@ use Rattle.model.specs.declared.Decoded.the-variants.{Unknown, Known}
 use Rattle.model.specs.declared.Answer.{Answer}
 use Rattle.model.specs.Commands.{execute, make, run}
 use Rattle.layout.specs.Commands.{commandOf}
-use Rattle.layout.specs.Bytes.{stateSize, stateBytes, stateFrom, isState, commandsIn, unreadable, packed, Call, callOf, Does, makeCall, executedOn, executeCall, DoesRun, noCount, fitsRun, RunCall, runCallOf, runCall}
-use Rattle.layout.proofs.Answers.{answersFrom}
+use Rattle.layout.specs.Bytes.{stateSize, stateBytes, stateFrom, isState, commandsIn, unreadable, packed, Call, callOf, Does, makeCall, executedOn, executeCall, DoesRun, noCount, roomFor, fitsRun, RunCall, runCallOf, runCall}
+use Rattle.layout.proofs.Answers.{readCommand, answersFrom, controller}
+use Rattle.layout.proofs.Lists.{Ran}
 use Rattle.in_place.specs.declared.Outcome.{Outcome}
 use Rattle.in_place.specs.Steps.{Says}
 use Rattle.steps.specs.Going.{Went}
@@ -68,9 +70,9 @@ module _ (number at p : ℕ) (b : List ℕ) where
         Went (execute (stateFrom b) c) sound o b′ keys′ ranks′ → r ≡ o .number + 256 * (o .id .0 + 65536 * o .cycles) →
         Does r b′ (executeCall number at p b)
     execute-went {r} {c} {sound} {o} {b′} f w er =
-        let (number-is, id-is, cycles-are) : Says o ((execute (stateFrom b) c) .number) ((execute (stateFrom b) c) .id .0) ((execute (stateFrom b) c) .cycles)
-        = w .says in
-        answered r b′ (execute (stateFrom b) c) (executeCall number at p b) (executed ∙ rw f) (er ∙ rw (number-is, id-is, cycles-are))
+        let a : Answer = execute (stateFrom b) c in
+        let (number-is, id-is, cycles-are) : Says o (a .number) (a .id .0) (a .cycles) = w .says in
+        answered r b′ a (executeCall number at p b) (executed ∙ rw f) (er ∙ rw (number-is, id-is, cycles-are))
         (w .going .whole ∙ ap stateBytes (w .state-is))
 
 -- ---- a list of commands
@@ -98,6 +100,18 @@ module _ (b list answers : List ℕ) where
       go (on e) = subst P (sym (run-fit e)) (fit e)
       go (off e) = subst P (sym (run-unfit e)) unfit
 
-pub run-refused : (b list answers : List ℕ) → fitsRun b list answers ≡ false → DoesRun noCount b answers (runCall b list answers)
-unfolding runCall
-run-refused b list answers e = rw e (refl, refl, refl)
+  pub run-ran :
+      {r : ℕ} {b′ answers′ : List ℕ} {s : Controller} → isState b ≡ true →
+      Ran readCommand controller list answers (stateFrom b) r answers′ s → b′ ≡ stateBytes s →
+      DoesRun r b′ answers′ (runCall b list answers)
+  unfolding runCall
+  run-ran e ran eb = rw (e, ran .fits) (ran .count, eb ∙ ap stateBytes (ran .state), ran .written)
+
+  refused : fitsRun b list answers ≡ false → DoesRun noCount b answers (runCall b list answers)
+  refused e = rw (run-unfit e) (refl, refl, refl)
+
+  pub run-unread : isState b ≡ false → DoesRun noCount b answers (runCall b list answers)
+  run-unread e = refused (rw e)
+
+  pub run-no-room : roomFor list answers ≡ false → DoesRun noCount b answers (runCall b list answers)
+  run-no-room e = refused (simp (e, and-false))

@@ -1,26 +1,14 @@
 // The calls for hosts in C and Rust. Each is proved to write what its definition in layout/specs/Bytes.antt says and nothing else,
 // on any bytes whatever. Unreadable bytes and buffers that do not fit are answered by 255, or by 2^64 - 1 where the answer is a count,
 // and leave every buffer as it was.
-ghost use Prim.Native.Nat.{_+_, _*_};
-ghost use mathlib.Core.Path.{_≡_};
 ghost use Rattle.layout.specs.Bytes.{Does, makeCall, executeCall, DoesRun, runCall};
 use layout::COMMAND_SIZE;
+use layout::NO_COUNT;
 use layout::STATE_SIZE;
+use layout::UNREADABLE;
 use model::CORES;
 use model::Decoded;
 use model::SOURCES;
-use model::SourceId;
-
-const UNREADABLE: u64 = 255;
-
-const NO_COUNT: u64 = 18446744073709551615;
-
-// Number, id and cycles in 8, 16 and 16 binary digits, the number lowest.
-fn packed(number: u8, id: SourceId, cycles: u16) -> u64
-    ensures { λ r. ⌜ r ≡ number + 256 * (id .0 + 65536 * cycles) ⌝ }
-{
-    number as u64 + 256 * (id.0 as u64 + 65536 * (cycles as u64))
-}
 
 // A fresh controller of n sources and m cores, written as bytes. Sizes out of range are refused by 2, and the buffer stays as it was.
 #[no_mangle]
@@ -31,7 +19,7 @@ pub extern "C" fn psic_make(n: u16, m: u16, state: &mut [u8]) -> u64
         return UNREADABLE;
     }
     let made = commands::make(n, m);
-    let answer = packed(made.number, made.id, made.cycles);
+    let answer = encoding::packed(made.number, made.id, made.cycles);
     if made.number != 0 {
         return answer;
     }
@@ -55,7 +43,7 @@ pub extern "C" fn psic_execute(state: &mut [u8], number: u16, at: u16, priority:
             let mut ranks = [0; SOURCES];
             let sound = steps::begin(state, &mut keys, &mut ranks);
             let o = steps::step(state, &mut keys, &mut ranks, sound, c);
-            packed(o.number, o.id, o.cycles)
+            encoding::packed(o.number, o.id, o.cycles)
         }
     }
 }

@@ -1,21 +1,25 @@
--- The answers to a list of commands as bytes, in a buffer. Assumes nothing.
+-- The controller as a machine that takes a list of commands one at a time. Assumes nothing.
+--   readCommand         the command that a number and two words name, or none: the reader of `commandsIn`
 --   answersFrom s cs    the answers' bytes, five each
 --   answers-count       as many answers as commands
---   answers-more        an answer written at i, and behind it those to the rest, are the answers from i on
-use Prim.Native.Nat.{ℕ, suc, _+_}
-use mathlib.Core.Path.{_≡_, refl, ap, _∙_}
+--   controller          the machine
+--   same-bytes          equal parts of an answer have equal bytes
+use Prim.Native.Nat.{ℕ, suc}
+use mathlib.Core.Path.{_≡_, refl, ap}
 use mathlib.Core.List.{List, [], _∷_, _++_}
 use lib.ListN.{length}
-use lib.Seq.{sets}
 use Rattle.lists.specs.Rows.{joined}
 use Rattle.model.specs.declared.Controller.{Controller}
 use Rattle.model.specs.declared.Command.{Command}
-use Rattle.model.specs.declared.Answer.{Answer}
-use Rattle.model.specs.Behaviours.{answersBy}
-use Rattle.model.specs.Commands.{execute}
+use Rattle.model.specs.Behaviours.{runBy, answersBy}
+use Rattle.model.specs.Commands.{execute, run}
 use Rattle.model.specs.Ledger.{answersTo}
-use Rattle.layout.specs.Bytes.{answerSize, answerBytes}
-use Rattle.lists.proofs.Writes.{sets-append}
+use Rattle.layout.specs.Commands.{commandOf}
+use Rattle.layout.specs.Bytes.{word, answerBytes, oneCommand}
+use Rattle.layout.proofs.Machines.{OneByOne, Machine}
+
+abbrev pub readCommand : ℕ → ℕ → ℕ → List Command
+readCommand number at p = oneCommand (commandOf number at p)
 
 abbrev pub answersFrom : Controller → List Command → List ℕ
 answersFrom s cs = joined answerBytes (answersTo s cs)
@@ -25,12 +29,28 @@ unfolding answersBy
 answers-count s [] = refl
 answers-count s (c ∷ cs) = ap suc (answers-count ((execute s c) .state) cs)
 
-pub answers-more :
-    (answers answers′ : List ℕ) (s : Controller) (i : ℕ) (c : Command) (a : Answer) (rest : List Command) →
-    a ≡ execute s c → answers′ ≡ sets answers i (answerBytes a) →
-    sets answers′ (i + answerSize) (answersFrom (a .state) rest) ≡ sets answers i (answersFrom s (c ∷ rest))
-unfolding answersBy joined
-answers-more answers answers′ s i c a rest ea e =
-    ap (λ (b : List ℕ). sets b (i + answerSize) (answersFrom (a .state) rest)) e
-    ∙ sets-append answers i (i + answerSize) (answerBytes a) (answersFrom (a .state) rest) refl
-    ∙ ap (λ (x : Answer). sets answers i (answerBytes x ++ answersFrom (x .state) rest)) ea
+pub commands-one-by-one : OneByOne (λ s c. (execute s c) .state) (λ s c. answerBytes (execute s c)) run answersFrom
+unfolding runBy answersBy joined
+commands-one-by-one =
+    record {
+      five = λ s c. refl;
+      run-none = λ s. refl;
+      run-more = λ s c cs. refl;
+      answers-none = λ s. refl;
+      answers-more = λ s c cs. refl;
+    }
+
+abbrev pub controller : Machine Controller Command
+controller =
+    record {
+      next = λ s c. (execute s c) .state;
+      says = λ s c. answerBytes (execute s c);
+      run = run;
+      answers = answersFrom;
+      one-by-one = commands-one-by-one;
+    }
+
+pub same-bytes :
+    {number id cycles number′ id′ cycles′ : ℕ} → (number ≡ number′) × (id ≡ id′) × (cycles ≡ cycles′) →
+    number ∷ (word id ++ word cycles) ≡ number′ ∷ (word id′ ++ word cycles′)
+same-bytes (e, f, g) = rw (e, f, g)

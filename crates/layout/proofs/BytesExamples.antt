@@ -5,7 +5,7 @@ use Rattle.model.specs.WellFormed.{sizesInRange}
 use Rattle.model.specs.Commands.{make}
 use Rattle.layout.specs.Commands.{commandOf}
 use Rattle.lists.specs.Rows.{joined}
-use Rattle.layout.specs.Bytes.{stateBytes, isState, commandsIn, entriesIn, makeCall, executeCall, runCall}
+use Rattle.layout.specs.Bytes.{stateBytes, isState, inFives, entriesIn, makeCall, executeCall, runCall}
 use Rattle.layout.specs.BytesCases.{times, SourceCases, CoreCases, StateCases, CommandCases, AnswerCases, PackedCases, CallCases}
 
 pub source-cases : SourceCases
@@ -19,7 +19,7 @@ unfolding joined stateBytes times
 state-cases = (refl, refl)
 
 pub command-cases : CommandCases
-unfolding commandOf commandsIn
+unfolding commandOf inFives
 command-cases = (refl, refl, refl, refl, refl, refl, refl)
 
 pub answer-cases : AnswerCases

@@ -10,7 +10,7 @@ use Rattle.model.specs.declared.CoreAction.the-variants.{SetCorePriority, Claim
 use Rattle.model.specs.declared.Decoded.the-variants.{Known}
 use Rattle.layout.specs.Commands.{commandOf, numberOf, targetOf, levelOf}
 use Rattle.lists.specs.Rows.{joined}
-use Rattle.layout.specs.Bytes.{commandSize, commandBytes, commandsIn}
+use Rattle.layout.specs.Bytes.{commandSize, commandBytes, inFives, commandsIn}
 use Rattle.layout.specs.Statements.{CommandFits, CommandsReadBack, PackedRead}
 use Rattle.layout.proofs.Records.{word-back}
 use Rattle.lists.proofs.Rows.{length-joined}
@@ -39,7 +39,7 @@ named (OnSource id Redeliver) = refl
 named (OnSource id Complete) = refl
 
 read-back : (cs : List Command) → commandsIn (joined commandBytes cs) ≡ cs
-unfolding joined commandsIn
+unfolding joined inFives
 read-back [] = refl
 read-back (c ∷ cs) = rw (word-back (targetOf c), word-back (levelOf c), named c, read-back cs)
 

@@ -20,6 +20,11 @@ use Rattle.layout.proofs.Octets.{state-bytes, byte}
 use Rattle.layout.proofs.Records.{word-back, source-back, source-flagged, core-back, core-flagged, word-part, source-part, core-part}
 use Rattle.lists.proofs.Rows.{length-joined, record-at, tabulated-all, joined-tabulated}
 
+-- bytes that encode a state have its length
+pub state-size : (b : List ℕ) → isState b ≡ true → length b ≡ stateSize
+unfolding isState
+state-size b e = eqb-true (length b) stateSize (and-l _ _ (and-l _ _ e))
+
 -- ---- a state there and back
 
 module _ (s : Controller) (sized : Sized s) where

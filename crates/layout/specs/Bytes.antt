@@ -4,7 +4,7 @@
 --   isState b           b encodes a state: the length is right and each flag is 0 or 1; the state may still be unsound
 --   stateFrom b         that state
 --   commandBytes c      5 bytes: its number 0 to 7, the id or core, the priority
---   commandsIn b        the commands in a row of such bytes
+--   commandsIn b        the commands in a row of such bytes; inFives reads any such row
 --   answerBytes a       5 bytes: the number, the id, the cycles
 --   entriesIn cs b      the commands cs, each with the number and the id of its answer's bytes in the row b
 --   packed a            an answer as one number; numberIn, idIn, cyclesIn are its parts
@@ -118,25 +118,37 @@ commandSize = 5
 abbrev pub commandBytes : Command → List ℕ
 commandBytes c = numberOf c ∷ (word (targetOf c) ++ word (levelOf c))
 
--- A command before those behind it; where none is named, the list ends.
-abbrev pub orEnd : Decoded → List Command → List Command
-orEnd Unknown rest = []
-orEnd (Known c) rest = c ∷ rest
+-- What is read before what lies behind it; where nothing is read, the list ends.
+abbrev pub orEnd : {A : Type 0} → List A → List A → List A
+orEnd [] rest = []
+orEnd (x ∷ none) rest = x ∷ rest
+
+-- What is read of a row of bytes, five at a time: of a number and two words, up to the first five that give nothing or the last whole
+-- five.
+unfoldable pub inFives : {A : Type 0} → (ℕ → ℕ → ℕ → List A) → List ℕ → List A
+inFives read [] = []
+inFives read (a ∷ []) = []
+inFives read (a ∷ b ∷ []) = []
+inFives read (a ∷ b ∷ c ∷ []) = []
+inFives read (a ∷ b ∷ c ∷ d ∷ []) = []
+inFives read (a ∷ b ∷ c ∷ d ∷ e ∷ rest) = orEnd (read a (b + 256 * c) (d + 256 * e)) (inFives read rest)
+
+abbrev pub oneCommand : Decoded → List Command
+oneCommand Unknown = []
+oneCommand (Known c) = c ∷ []
 
 -- The commands up to the first that cannot be read: a number above 7, or fewer than five bytes left.
-unfoldable pub commandsIn : List ℕ → List Command
-commandsIn [] = []
-commandsIn (a ∷ []) = []
-commandsIn (a ∷ b ∷ []) = []
-commandsIn (a ∷ b ∷ c ∷ []) = []
-commandsIn (a ∷ b ∷ c ∷ d ∷ []) = []
-commandsIn (a ∷ b ∷ c ∷ d ∷ e ∷ rest) = orEnd (commandOf a (b + 256 * c) (d + 256 * e)) (commandsIn rest)
+abbrev pub commandsIn : List ℕ → List Command
+commandsIn l = inFives (λ number at p. oneCommand (commandOf number at p)) l
 
 abbrev pub answerSize : ℕ
 answerSize = 5
 
+abbrev pub answerRow : ℕ → ℕ → ℕ → List ℕ
+answerRow number id cycles = number ∷ (word id ++ word cycles)
+
 abbrev pub answerBytes : Answer → List ℕ
-answerBytes a = a .number ∷ (word (a .id .0) ++ word (a .cycles))
+answerBytes a = answerRow (a .number) (a .id .0) (a .cycles)
 
 -- The commands with what they answered, the number and the id read from five bytes each.
 unfoldable pub entriesIn : List Command → List ℕ → List Entry
@@ -150,8 +162,11 @@ abbrev pub unreadable : ℕ
 unreadable = 255
 
 -- One answer as a number: number, id and cycles in 8, 16 and 16 binary digits.
+abbrev pub packedAs : ℕ → ℕ → ℕ → ℕ
+packedAs number id cycles = number + 256 * (id + 65536 * cycles)
+
 abbrev pub packed : Answer → ℕ
-packed a = a .number + 256 * (a .id .0 + 65536 * a .cycles)
+packed a = packedAs (a .number) (a .id .0) (a .cycles)
 
 -- Its parts, from the number.
 abbrev pub numberIn : ℕ → ℕ

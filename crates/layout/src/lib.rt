@@ -34,3 +34,8 @@ pub const STATE_SIZE: usize = CORES_FROM + CORE_SIZE * CORES;
 
 // A command, and an answer, which is as long.
 pub const COMMAND_SIZE: usize = 5;
+
+// What a call answers where memory can't be read or doesn't fit, and the same where the answer is a count.
+pub const UNREADABLE: u64 = 255;
+
+pub const NO_COUNT: u64 = 18446744073709551615;

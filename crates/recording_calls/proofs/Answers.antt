@@ -2,17 +2,16 @@
 --   ReplayedTo                                    as many commands as are counted are run, and their answers written; those to come, run
 --                                                 from the state reached, end as the whole text's do from the start
 --   encoded                                       the bytes of the fresh state
---   replayed-none, replayed-past, replayed-more   nothing is read; a part without a command, and a part with one (`replayed-went` from what
---                                                 a step leaves)
+--   replayed-none, replayed-past, replayed-more   nothing is read; a part without a command, and a part with one
 --   replay-end, replay-refused, replay-unfit      nothing is left, sizes out of range, no room: what the call answers and writes
 --   no-state, no-answers, fits                    whether the buffers fit
 use Prim.Native.Nat.{ℕ, _+_, _*_, _<_, _≤_}
-use mathlib.Core.Path.{_≡_, refl, sym, ap, subst, _∙_}
-use mathlib.Core.List.{List, [], _∷_, _++_}
-use mathlib.Core.Bool.{Bool, true, false, and-false, cond}
+use mathlib.Core.Path.{_≡_, refl, sym, ap, _∙_}
+use mathlib.Core.List.{List, [], _∷_}
+use mathlib.Core.Bool.{true, false, and-false, cond}
 use native.Mathlib.Omega.{arith}
 use lib.ListN.{length}
-use lib.Seq.{sets, length-sets}
+use lib.Seq.{sets}
 use lib.Dec.{leb, eqb}
 use borrow.Author.Tests.{leb-true, eqb-true, le-leb, lt-leb, eq-eqb, ne-eqb}
 use Rattle.lists.specs.Rows.{joined}
@@ -22,15 +21,12 @@ use Rattle.model.specs.declared.Command.{Command}
 use Rattle.model.specs.declared.Answer.{Answer}
 use Rattle.model.specs.Records.{reset}
 use Rattle.model.specs.WellFormed.{sizesInRange}
-use Rattle.model.specs.Behaviours.{runBy, answersBy}
 use Rattle.model.specs.Commands.{execute, make, run}
-use Rattle.layout.specs.Bytes.{word, stateSize, stateBytes, stateFrom, isState, answerSize, answerBytes}
+use Rattle.layout.specs.Bytes.{stateSize, stateBytes, stateFrom, isState, answerSize, answerBytes}
 use Rattle.layout.specs.Statements.{Sized}
-use Rattle.layout.proofs.Answers.{answersFrom, answers-count, answers-more}
+use Rattle.layout.proofs.Answers.{answersFrom, answers-count, controller}
+use Rattle.layout.proofs.Machines.{Taken, taken-none, taken-more, taken-all}
 use Rattle.layout.proofs.RoundTrip.{state-read-back, state-encoded}
-use Rattle.in_place.specs.declared.Outcome.{Outcome}
-use Rattle.in_place.specs.Steps.{Says}
-use Rattle.steps.specs.Going.{Went}
 use Rattle.recording.specs.declared.Reader.{Reader}
 use Rattle.recording.specs.declared.Report.{Report}
 use Rattle.recording.specs.Reading.{isGood, Reading, reading}
@@ -99,56 +95,29 @@ module _ (n m : ℕ) (a : Answer) (e : a ≡ make n m) where
 module _ (t answers₀ : List ℕ) (s₀ : Controller) where
   pub record ReplayedTo (answers : List ℕ) (s : Controller) (at count : ℕ) (q : Remaining) : Type 0 where
     pub reached : Reached t at count q
-    pub size : length answers ≡ length answers₀
-    pub runs : run s (q .commands) ≡ run s₀ ((all t) .commands)
-    pub written : sets answers (answerSize * count) (answersFrom s (q .commands)) ≡ sets answers₀ 0 (answersFrom s₀ ((all t) .commands))
+    pub taken : Taken controller answers₀ s₀ ((all t) .commands) answers s (answerSize * count) (q .commands)
 
   pub replayed-none : ReplayedTo answers₀ s₀ 0 0 (all t)
-  replayed-none = record { reached = reached-none t; size = refl; runs = refl; written = refl }
+  replayed-none = record { reached = reached-none t; taken = taken-none controller answers₀ s₀ ((all t) .commands) }
 
-  module _
-      (answers : List ℕ) (s : Controller) (at at′ count : ℕ) (q q′ : Remaining) (h : ReplayedTo answers s at count q)
-      (inside : at′ ≤ length t) where
-    pub replayed-past : q ≡ q′ → ReplayedTo answers s at′ count q′
-    replayed-past e =
-        record {
-          reached = reached-past t at at′ count q q′ (h .reached) inside e;
-          size = h .size;
-          runs = ap (λ (x : Remaining). run s (x .commands)) (sym e) ∙ h .runs;
-          written = ap (λ (x : Remaining). sets answers (answerSize * count) (answersFrom s (x .commands))) (sym e) ∙ h .written;
-        }
+module _
+    {t answers₀ : List ℕ} {s₀ : Controller} {answers : List ℕ} {s : Controller} {at at′ count : ℕ} {q q′ : Remaining}
+    (h : ReplayedTo t answers₀ s₀ answers s at count q) (inside : at′ ≤ length t) where
+  pub replayed-past : q ≡ q′ → ReplayedTo t answers₀ s₀ answers s at′ count q′
+  replayed-past e =
+      record { reached = reached-past t at at′ count q q′ (h .reached) inside e; taken = rw (← e) (h .taken) }
 
-    pub replayed-more :
-        (answers′ : List ℕ) (time : ℕ) (c : Command) (a : Answer) →
-        q ≡ remainingWith (c ∷ q′ .commands) (time ∷ q′ .times) (q′ .reader) → a ≡ execute s c →
-        answers′ ≡ sets answers (answerSize * count) (answerBytes a) → ReplayedTo answers′ (a .state) at′ (count + 1) q′
-    unfolding runBy
-    replayed-more answers′ time c a e ea ew =
-        let place : answerSize * (count + 1) ≡ answerSize * count + answerSize = omega arith in
-        record {
-          reached = reached-more t at at′ count time c q q′ (h .reached) inside e;
-          size = ap length ew ∙ length-sets answers (answerSize * count) (answerBytes a) ∙ h .size;
-          runs =
-              ap (λ (x : Answer). run (x .state) (q′ .commands)) ea ∙ ap (λ (x : Remaining). run s (x .commands)) (sym e) ∙ h .runs;
-          written =
-              ap (λ (k : ℕ). sets answers′ k (answersFrom (a .state) (q′ .commands))) place ∙
-              answers-more answers answers′ s (answerSize * count) c a (q′ .commands) ea ew ∙
-              ap (λ (x : Remaining). sets answers (answerSize * count) (answersFrom s (x .commands))) (sym e) ∙ h .written;
-        }
-
--- the same from what a step leaves
-pub replayed-went :
-    (t answers₀ : List ℕ) (s₀ : Controller) (answers answers′ b : List ℕ) (at at′ count time : ℕ) (q q′ : Remaining) (c : Command)
-    {sound : Bool} {o : Outcome} {b′ keys′ ranks′ : List ℕ} → ReplayedTo t answers₀ s₀ answers (stateFrom b) at count q → at′ ≤ length t →
-    q ≡ remainingWith (c ∷ q′ .commands) (time ∷ q′ .times) (q′ .reader) → Went (execute (stateFrom b) c) sound o b′ keys′ ranks′ →
-    answers′ ≡ sets answers (answerSize * count) (o .number ∷ (word (o .id .0) ++ word (o .cycles))) →
-    ReplayedTo t answers₀ s₀ answers′ (stateFrom b′) at′ (count + 1) q′
-replayed-went t answers₀ s₀ answers answers′ b at at′ count time q q′ c h inside e w ew =
-    let a : Answer = execute (stateFrom b) c in
-    let (number-is, id-is, cycles-are) : Says _ (a .number) (a .id .0) (a .cycles) = w .says in
-    subst (λ (s : Controller). ReplayedTo t answers₀ s₀ answers′ s at′ (count + 1) q′) (sym (w .state-is))
-    (replayed-more t answers₀ s₀ answers (stateFrom b) at at′ count q q′ h inside answers′ time c a e refl
-    (ew ∙ rw (number-is, id-is, cycles-are)))
+  -- the command leads to s′ and is answered by xs, which is written behind the answers so far
+  pub replayed-more :
+      {answers′ xs : List ℕ} {s′ : Controller} {time : ℕ} {c : Command} →
+      q ≡ remainingWith (c ∷ q′ .commands) (time ∷ q′ .times) (q′ .reader) → s′ ≡ (execute s c) .state →
+      answers′ ≡ sets answers (answerSize * count) xs → xs ≡ answerBytes (execute s c) →
+      ReplayedTo t answers₀ s₀ answers′ s′ at′ (count + 1) q′
+  replayed-more {time = time} {c = c} e es ea ex =
+      record {
+        reached = reached-more t at at′ count time c q q′ (h .reached) inside e;
+        taken = taken-more (h .taken) (omega arith) (ap (λ (x : Remaining). x .commands) e) es ea ex;
+      }
 
 -- ---- the end
 
@@ -160,16 +129,13 @@ module _ (n m : ℕ) (t b answers₀ : List ℕ) where
   same-commands = ap (λ (x : Reading). x .commands) (sym (whole-reading t))
 
   pub replay-end :
-      (answers b′ : List ℕ) (s₀ s : Controller) (at count : ℕ) (r : Reader) (report : Report) → fitsReplay t b answers₀ ≡ true →
-      sizesInRange n m ≡ true → s₀ ≡ reset n m → ReplayedTo t answers₀ s₀ answers s at count (remainingWith [] [] r) → b′ ≡ stateBytes s →
+      {answers b′ : List ℕ} {s : Controller} {at count : ℕ} {r : Reader} {report : Report} → fitsReplay t b answers₀ ≡ true →
+      sizesInRange n m ≡ true → ReplayedTo t answers₀ (reset n m) answers s at count (remainingWith [] [] r) → b′ ≡ stateBytes s →
       report ≡ reportWith (r .fault .number) count (cond (isGood r) (length t) (r .fault .offset)) →
       DoesReplay report b′ answers (replayCall n m t b answers₀)
-  unfolding replayCall replayed runBy answersBy joined
-  replay-end answers b′ s₀ s at count r report ef es e₀ h eb er =
-      let reached : s ≡ run (reset n m) commands
-      = h .runs ∙ ap (λ (x : Controller). run x ((all t) .commands)) e₀ ∙ ap (run (reset n m)) same-commands in
-      let written : answers ≡ sets answers₀ 0 (answersFrom (reset n m) commands)
-      = h .written ∙ ap (λ (x : Controller). sets answers₀ 0 (answersFrom x ((all t) .commands))) e₀ ∙
-      ap (λ (cs : List Command). sets answers₀ 0 (answersFrom (reset n m) cs)) same-commands in
+  unfolding replayCall replayed
+  replay-end {answers} {s = s} {at} {count} {r} ef es h eb er =
+      let ends : (s ≡ run (reset n m) commands) × (answers ≡ sets answers₀ 0 (answersFrom (reset n m) commands))
+      = rw (← same-commands) (taken-all (h .taken) refl) in
       let each = ap (λ (k : ℕ). reportWith ((reading t) .number) k ((reading t) .offset)) (sym (answers-count (reset n m) commands)) in
-      rw (ef, es) (er ∙ reported t at count r (h .reached) ∙ each, eb ∙ ap stateBytes reached, written)
+      rw (ef, es) (er ∙ reported t at count r (h .reached) ∙ each, eb ∙ ap stateBytes (ends .0), ends .1)

@@ -3,6 +3,8 @@
 --   call-accepted, call-refused   the answer, by whether the number for no is 0
 --   by-call                       what holds of both answers holds of every call's
 --   number-answered               the number answered is the refusal's
+--   handed-back                   a refused call hands back the state it was given
+use Prim.Native.Nat.{ℕ}
 use mathlib.Core.Path.{_≡_, refl, _∙_}
 use mathlib.Core.Logic.{_≢_}
 use native.Mathlib.Decide.{ℕ-discrete}
@@ -14,7 +16,7 @@ use Rattle.routines.specs.declared.RoutineAnswer.{RoutineAnswer}
 use Rattle.routines.specs.Routines.{callRefusal, entered, exited, commanded, acceptedCall, refusedCall, afterRefusedCall, routineAnswer, callRoutine, tableAfter}
 use Rattle.routines.specs.Statements.{RefusedCallUnchanged, RefusedUncounted}
 
-accepted-number : (s : Routines) (c : RoutineCall) → (acceptedCall s c) .number ≡ 0
+pub accepted-number : (s : Routines) (c : RoutineCall) → (acceptedCall s c) .number ≡ 0
 unfolding entered exited commanded
 accepted-number s (Direct id a) = refl
 accepted-number s (Enter k) = refl
@@ -40,6 +42,11 @@ module _ (s : Routines) (c : RoutineCall) where
 
   pub number-answered : (callRoutine s c) .number ≡ callRefusal s c
   number-answered = by-call (λ a. a .number ≡ callRefusal s c) (λ e. rw (accepted-number s c, e)) (λ h. refl)
+
+pub handed-back : (s : Routines) (c : RoutineCall) (number : ℕ) → afterRefusedCall s c number ≡ s
+handed-back s (Direct id a) number = refl
+handed-back s (Enter k) number = refl
+handed-back s (Exit k) number = refl
 
 pub refused-call-unchanged : RefusedCallUnchanged
 refused-call-unchanged s c =

@@ -11,6 +11,7 @@
 --   Cycles        the cycles of a call
 --   Taken         what runs and what waits after an entry and after an exit
 --   Strict        a fresh simulation is sound; both clauses after every run
+--   Called        what the calls for hosts leave
 --   Cells, Tally  the table of handovers is the count in the history
 pub mod Test
 pub mod Answered
@@ -29,3 +30,4 @@ pub mod Taken
 pub mod Strict
 pub mod Cells
 pub mod Tally
+pub mod Called

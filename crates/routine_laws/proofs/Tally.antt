@@ -18,12 +18,13 @@ use Rattle.model.specs.Records.{maxSources, maxCores, indexOf, coreAt, reset}
 use Rattle.model.specs.WellFormed.{Holding}
 use Rattle.model.specs.Commands.{refusal}
 use Rattle.effects.proofs.Checked.{Named, accepted}
+use Rattle.model.specs.Statements.{InRange}
 use Rattle.routines.specs.declared.Routines.{Routines}
 use Rattle.routines.specs.declared.DirectAction.{DirectAction}
 use Rattle.routines.specs.declared.DirectAction.the-variants.{SetPriority, Mask, Unmask, Trigger}
 use Rattle.routines.specs.declared.RoutineCall.{RoutineCall}
 use Rattle.routines.specs.declared.RoutineCall.the-variants.{Direct, Enter, Exit}
-use Rattle.routines.specs.Routines.{holderAt, commandOf, idleBeside, freshRoutines, SoundRoutines, callRefusalOf, callRefusal, claimOn, entered, exited, commanded, acceptedCall, afterRefusedCall, callRoutine, Handovers, cellAt, noHandovers, mostHandovers, oneMore, boxHolder, counted, tableAfter, runTable}
+use Rattle.routines.specs.Routines.{holderAt, commandOf, idleBeside, freshRoutines, SoundRoutines, callRefusalOf, callRefusal, claimOn, entered, exited, commanded, acceptedCall, afterRefusedCall, callRoutine, Handovers, cellAt, noHandovers, mostHandovers, oneMore, boxHolder, counted, tableAfter, runRoutines, runTable}
 use Rattle.routines.specs.History.{Event, heldBy, lastHolder, passesOn, handovers, eventOf, eventWith, historyAfter, history}
 use Rattle.routines.specs.Statements.{TableIsHistory, DiagonalZero}
 use Rattle.routine_laws.proofs.Answered.{by-call}
@@ -177,12 +178,13 @@ module _ (s : Routines) (t : Handovers) (h : List Event) (x : Tallied s t h) whe
 
 -- ---- runs
 
-run-tallied : (cs : List RoutineCall) (s : Routines) (t : Handovers) (h : List Event) → Tallied s t h → (r c : ℕ) →
-    cellAt (runTable t s cs) r c ≡ min mostHandovers (handovers (historyAfter h s cs) r c)
-unfolding runTable historyAfter
-run-tallied [] s t h x r c = x .cells r c
-run-tallied (call ∷ cs) s t h x r c =
-    run-tallied cs ((callRoutine s call) .state) (tableAfter t s call) (eventOf s call ∷ h) (step-tallied s t h x call) r c
+run-tallied :
+    (cs : List RoutineCall) (s : Routines) (t : Handovers) (h : List Event) → Tallied s t h →
+    Tallied (runRoutines s cs) (runTable t s cs) (historyAfter h s cs)
+unfolding runRoutines runTable historyAfter
+run-tallied [] s t h x = x
+run-tallied (call ∷ cs) s t h x =
+    run-tallied cs ((callRoutine s call) .state) (tableAfter t s call) (eventOf s call ∷ h) (step-tallied s t h x call)
 
 -- the cells of n rows of zeros, and what is read past them
 blank : (n k r c : ℕ) → getD (getD (replicate n (replicate {A = ℕ} k 0)) r []) c 0 ≡ 0
@@ -203,8 +205,14 @@ fresh-tallied n m =
       cells = λ r c. blank maxCores maxCores r c;
     }
 
+pub fresh-run-tallied :
+    (n m : ℕ) (cs : List RoutineCall) → InRange n m →
+    Tallied (runRoutines (freshRoutines n m) cs) (runTable noHandovers (freshRoutines n m) cs) (history (freshRoutines n m) cs)
+fresh-run-tallied n m cs range =
+    rw (fresh-is n m range) (run-tallied cs (idleBeside (reset n m)) noHandovers [] (fresh-tallied n m))
+
 pub table-is-history : TableIsHistory
-table-is-history n m cs range r c = rw (fresh-is n m range) (run-tallied cs (idleBeside (reset n m)) noHandovers [] (fresh-tallied n m) r c)
+table-is-history n m cs range = fresh-run-tallied n m cs range .cells
 
 -- ---- the diagonal
 

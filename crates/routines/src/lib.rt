@@ -38,3 +38,9 @@ pub struct RoutineAnswer {
     pub id: SourceId,
     pub cycles: u16,
 }
+
+// The call that three numbers name, if they name one.
+pub enum DecodedCall {
+    Unnamed,
+    Named(RoutineCall),
+}

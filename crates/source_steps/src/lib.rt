@@ -68,7 +68,7 @@ fn boxed(state: &[u8], m: usize, id: SourceId) -> bool
 }
 
 // Whether the request of a source, whose record is r, is claimed: pending, delivered, and in no box.
-fn is_claimed(state: &[u8], m: usize, id: SourceId, r: Source) -> bool
+pub fn is_claimed(state: &[u8], m: usize, id: SourceId, r: Source) -> bool
     requires { ⌜ (length (now state) ≡ stateSize) × (m ≤ maxCores) ⌝ }
     ensures { λ x. ⌜ x ≡ r .pending && r .delivered && not (boxedIn ((stateFrom (now (state .entry))) .cores) m (id .0)) ⌝ }
 {

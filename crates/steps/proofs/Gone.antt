@@ -1,5 +1,4 @@
 -- What a list's state is before the first command, and after one more. Assumes nothing.
---   state-size                    bytes that encode a state have its length
 --   begun-sound, begun-unsound    before the first
 --   go-refused                    on an unsound state every command is 1
 --   ready, gone-on                on a sound one a command does what the definition says, and the state stays sound
@@ -7,9 +6,7 @@ use Prim.Native.Nat.{ℕ}
 use mathlib.Core.Path.{_≡_, refl, sym, ap, subst, _∙_}
 use mathlib.Core.List.{List}
 use mathlib.Core.Bool.{Bool, true, false}
-use lib.ListN.{length}
-use borrow.Author.Tests.{eqb-true}
-use Rattle.lists.proofs.Bools.{and-l, clash}
+use Rattle.lists.proofs.Bools.{clash}
 use Rattle.model.specs.declared.Controller.{Controller}
 use Rattle.model.specs.declared.Answer.{Answer}
 use Rattle.model.specs.declared.Command.{Command}
@@ -18,8 +15,9 @@ use Rattle.model.specs.Commands.{execute}
 use Rattle.well_formed.proofs.Test.{wellFormed-in, wellFormed-out}
 use Rattle.effects.proofs.Answers.{at-state}
 use Rattle.effects.proofs.Kept.{wellFormed-kept}
-use Rattle.layout.specs.Bytes.{stateSize, stateBytes, isState, stateFrom}
+use Rattle.layout.specs.Bytes.{stateBytes, isState, stateFrom}
 use Rattle.layout.specs.Statements.{Sized}
+use Rattle.layout.proofs.RoundTrip.{state-size}
 use Rattle.in_place.specs.declared.Outcome.{Outcome}
 use Rattle.in_place.specs.Held.{Numbered}
 use Rattle.in_place.specs.Steps.{Says, Ready, Executed}
@@ -27,10 +25,6 @@ use Rattle.in_place.proofs.Stored.{held-back, held-here, held-length}
 use Rattle.steps.specs.Going.{Going, Went}
 
 -- ---- before the first command
-
-pub state-size : (b : List ℕ) → isState b ≡ true → length b ≡ stateSize
-unfolding isState
-state-size b e = eqb-true (length b) stateSize (and-l _ _ (and-l _ _ e))
 
 module _ {b keys ranks : List ℕ} (encodes : isState b ≡ true) (whole : b ≡ stateBytes (stateFrom b)) {sound : Bool}
     (tested : sound ≡ wellFormed (stateFrom b)) where

@@ -1,5 +1,4 @@
--- What stands in the answers' buffer after a run: the answers' bytes, and behind them what stood there before. Assumes nothing.
---   written          the buffer, from what was answered
+-- What is told by the answers' bytes, which stand in front of their buffer after a run. Assumes nothing.
 --   entries-read     the entries read from the answers' bytes are those of the commands
 --   kept-refused     commands that answer no 0 leave the state
 --   cycles-told      the cycles read from the answers' bytes are at most 2m
@@ -9,36 +8,23 @@ use mathlib.Core.Logic.{_≢_}
 use mathlib.Core.List.{List, [], _∷_, _++_}
 use native.Mathlib.Omega.{arith}
 use native.Mathlib.Nat.{not-suc-le-zero, le-of-suc-le-suc}
-use lib.ListN.{length, getD, drop}
-use lib.Seq.{sets, sets-eq}
+use lib.ListN.{length, getD}
 use Rattle.model.specs.Behaviours.{runBy, answersBy}
 use Rattle.model.specs.declared.Controller.{Controller}
 use Rattle.model.specs.declared.Command.{Command}
 use Rattle.model.specs.declared.Answer.{Answer}
 use Rattle.model.specs.Commands.{effect, settled, refused, execute, run}
-use Rattle.model.specs.Ledger.{answersTo, paired, entries}
-use Rattle.layout.specs.Bytes.{wordAt, answerSize, answerBytes, entriesIn}
+use Rattle.model.specs.Ledger.{paired, entries}
+use Rattle.layout.specs.Bytes.{wordAt, answerSize, entriesIn}
 use Rattle.lists.specs.Rows.{joined}
 use Rattle.layout.proofs.Records.{word-back}
-use Rattle.lists.proofs.Rows.{length-joined}
 use Rattle.model.specs.Settling.{settle}
 use Rattle.settling.proofs.Keeps.{kept-m, settling-leaves-bare}
 use Rattle.effects.proofs.Accepted.{by-answer}
 use Rattle.effects.proofs.Effects.{effect-m}
 use Rattle.effects.proofs.Kept.{cycles-bounded}
 use Rattle.theorems.proofs.Refusals.{refused-unchanged}
-use Rattle.layout.proofs.Answers.{answersFrom, answers-count}
-
-pub answers-length : (s : Controller) (cs : List Command) → length (answersFrom s cs) ≡ answerSize * length cs
-answers-length s cs =
-    length-joined answerBytes answerSize (λ a. refl) (answersTo s cs) ∙ ap (λ (n : ℕ). answerSize * n) (answers-count s cs)
-
-pub written :
-    (answers : List ℕ) (s : Controller) (cs : List Command) → answerSize * length cs ≤ length answers →
-    sets answers 0 (answersFrom s cs) ≡ answersFrom s cs ++ drop (answerSize * length cs) answers
-written answers s cs h =
-    let size : 0 + length (answersFrom s cs) ≡ answerSize * length cs = omega (arith, answers-length s cs) in
-    sets-eq (answersFrom s cs) answers 0 (omega (arith, size)) ∙ ap (λ (k : ℕ). answersFrom s cs ++ drop k answers) size
+use Rattle.layout.proofs.Answers.{answersFrom}
 
 pub entries-read : (s : Controller) (cs : List Command) (rest : List ℕ) → entriesIn cs (answersFrom s cs ++ rest) ≡ entries s cs
 unfolding entriesIn answersBy paired joined

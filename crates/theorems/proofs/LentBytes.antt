@@ -18,11 +18,12 @@ use Rattle.layout.specs.Bytes.{stateSize, stateBytes, stateFrom, isState, comma
 use Rattle.layout.specs.Statements.{AreBytes}
 use Rattle.layout.proofs.RoundTrip.{bytes-written-back}
 use Rattle.layout.specs.CallStatements.{RefusedMakeKeeps, RefusedExecuteKeeps, RefusedRunKeeps, AllRefusedKeeps, RestKept, RunKeepsRest}
-use Rattle.exports.proofs.Commands.{commands-length}
-use Rattle.exports.proofs.Buffers.{room-enough}
-use Rattle.layout.proofs.Answers.{answersFrom}
+use Rattle.layout.proofs.Answers.{readCommand, answersFrom, controller}
+use Rattle.layout.proofs.Fives.{fives-length}
+use Rattle.layout.proofs.Machines.{answers-length, answers-in-front}
+use Rattle.layout.proofs.Lists.{answers-fit}
 use Rattle.exports.proofs.Calls.{run-by}
-use Rattle.theorems.proofs.AnswerBytes.{answers-length, written, refused-state, kept-refused}
+use Rattle.theorems.proofs.AnswerBytes.{refused-state, kept-refused}
 
 -- a call that answers a number other than 0 leaves the bytes b
 abbrev Keeps : List ℕ → Call → Type 0
@@ -59,12 +60,12 @@ refused-execute-keeps number at p b are = go (flag (isState b))
 pub refused-run-keeps : RefusedRunKeeps
 refused-run-keeps b list answers h =
     run-by b list answers (λ ran. ran .result ≡ noCount → (ran .bytes ≡ b) × (ran .answers ≡ answers))
-    (λ e q. absurd (omega (arith, q, commands-length list)))
+    (λ e q. absurd (omega (arith, q, fives-length readCommand list)))
     (λ q. (refl, refl))
 
 -- a run has room for its answers
 room : (b list answers : List ℕ) → fitsRun b list answers ≡ true → answerSize * length (commandsIn list) ≤ length answers
-room b list answers e = omega (arith, commands-length list, room-enough b list answers (and-r (isState b) (roomFor list answers) e))
+room b list answers e = answers-fit list answers readCommand (and-r (isState b) (roomFor list answers) e)
 
 pub all-refused-keeps : AllRefusedKeeps
 all-refused-keeps b list answers are =
@@ -73,7 +74,7 @@ all-refused-keeps b list answers are =
     let s = stateFrom b in
     let cs = commandsIn list in
     let rest = drop (answerSize * length cs) answers in
-    ap stateBytes (kept-refused s cs rest (rw (← written answers s cs (room b list answers e)) h))
+    ap stateBytes (kept-refused s cs rest (rw (← answers-in-front controller answers s cs (room b list answers e)) h))
     ∙ bytes-written-back b are (and-l (isState b) (roomFor list answers) e))
     (λ h. refl)
 
@@ -84,7 +85,7 @@ run-keeps-rest b list answers =
     let v = answersFrom (stateFrom b) (commandsIn list) in
     let size = answerSize * length (commandsIn list) in (
       length-sets answers 0 v,
-      ap (drop size) (written answers (stateFrom b) (commandsIn list) (room b list answers e))
-          ∙ drop-at v (drop size answers) size (answers-length (stateFrom b) (commandsIn list)),
+      ap (drop size) (answers-in-front controller answers (stateFrom b) (commandsIn list) (room b list answers e))
+          ∙ drop-at v (drop size answers) size (answers-length controller (stateFrom b) (commandsIn list)),
     ))
     (refl, refl)

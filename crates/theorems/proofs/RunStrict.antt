@@ -24,10 +24,11 @@ use Rattle.layout.specs.Statements.{Sized}
 use Rattle.layout.proofs.RoundTrip.{state-read-back, state-encoded}
 use Rattle.layout.proofs.Commands.{commands-read-back}
 use Rattle.layout.specs.CallStatements.{Strict, ranFresh, RunStrict, ListStrict}
-use Rattle.exports.proofs.Commands.{commands-length}
-use Rattle.exports.proofs.Buffers.{room-enough}
+use Rattle.layout.proofs.Answers.{readCommand, controller}
+use Rattle.layout.proofs.Machines.{answers-in-front}
+use Rattle.layout.proofs.Lists.{answers-fit}
 use Rattle.exports.proofs.Calls.{ranOver, run-fit}
-use Rattle.theorems.proofs.AnswerBytes.{written, entries-read, cycles-told}
+use Rattle.theorems.proofs.AnswerBytes.{entries-read, cycles-told}
 
 -- a sound state has the arrays' lengths, and stays sound through a list
 pub sized : (s : Controller) → WellFormed s → Sized s
@@ -50,7 +51,7 @@ module _ (n m : ℕ) (R : InRange n m) where
       let s = reset n m in
       let w = run-wellFormed s cs (reset-wellFormed n m R) in
       let rest = drop (answerSize * length cs) answers in
-      let there = written answers s cs h in
+      let there = answers-in-front controller answers s cs h in
       record {
         taken = refl;
         strict = rw (there, entries-read s cs rest, state-read-back (run s cs) (sized (run s cs) w)) (reset-strict n m cs R);
@@ -61,11 +62,10 @@ pub run-strict : RunStrict
 run-strict n m b list answers R h e =
     let w = sized (reset n m) (reset-wellFormed n m R) in
     let fits = and-in (state-encoded (reset n m) w .0) e in
-    let room : answerSize * length (commandsIn list) ≤ length answers = omega (arith, commands-length list, room-enough b list answers e) in
     let ran : runCall ((makeCall n m b) .bytes) list answers ≡ ranOver answers (reset n m) (commandsIn list)
     = ap (λ (x : List ℕ). runCall x list answers) (fresh n m R b h) ∙ run-fit (stateBytes (reset n m)) list answers fits
     ∙ ap (λ (s : Controller). ranOver answers s (commandsIn list)) (state-read-back (reset n m) w) in
-    subst (Strict n m (commandsIn list)) (sym ran) (ran-strict n m R answers (commandsIn list) room)
+    subst (Strict n m (commandsIn list)) (sym ran) (ran-strict n m R answers (commandsIn list) (answers-fit list answers readCommand e))
 
 pub list-strict : ListStrict
 list-strict n m b answers cs R h room =

@@ -10,6 +10,7 @@ psic: a proved model of the PSIC interrupt controller
 
 usage: psic run --sources N --cores M [FILE]
        psic replay FILE --sources N --cores M
+       psic routines --sources N --cores M [FILE]
        psic refusals
        psic --help | --version
 
@@ -42,6 +43,19 @@ psic replay
         The time of the stamp at whose end the command was taken, then the line that 'psic run' prints. After the last
         one: how many commands there were, how many were refused and by which number, the cycles in all and at most.
         A fault goes to standard error: its line, column and word, and what was expected there.
+
+psic routines
+    simulates the interrupt routines' entry and exit code on all cores, from a fresh controller, and takes calls as
+    'psic run' takes commands. A line is a call: set source, mask, unmask or trigger as above, or
+
+        enter on core CORE              claims what the core's box has, redelivers the request that it interrupts, if
+                                        there is one, and makes the new one active
+        exit on core CORE               completes the request that is active on the core, and sets the core to 0
+
+    enter on core 0: accepted, id 4, 0 cycles, [4,0]  active [4,-]  4: software
+        As 'psic run' prints it, and behind the current priorities the id that is active on each core, '-' if the core
+        is idle. After the last call the handovers, if there are any: how often a request last held by one core was
+        next claimed by another, up to 65535.
 
 psic refusals
     prints the numbers for no in words, of commands and of recordings.

@@ -1,4 +1,4 @@
-//! The line that is printed for a command.
+//! The line that is printed for a command or a call.
 
 use std::fmt::Display;
 use std::io::{self, Write};
@@ -13,9 +13,19 @@ pub fn answer(
     out: &mut impl Write,
 ) -> io::Result<Result<Answer, Refusal>> {
     let answer = controller.execute(command);
-    match answer {
-        Ok(answer) => writeln!(out, "{shown}: {answer}, {controller}")?,
-        Err(refusal) => writeln!(out, "{shown}: {refusal}, 0 cycles, {controller}")?,
-    }
+    print(shown, answer, controller, out)?;
     Ok(answer)
+}
+
+/// Prints what is asked, what is answered and the state after it.
+pub fn print(
+    shown: impl Display,
+    answer: Result<Answer, impl Display>,
+    state: &impl Display,
+    out: &mut impl Write,
+) -> io::Result<()> {
+    match answer {
+        Ok(answer) => writeln!(out, "{shown}: {answer}, {state}"),
+        Err(refusal) => writeln!(out, "{shown}: {refusal}, 0 cycles, {state}"),
+    }
 }

@@ -3,9 +3,11 @@
 mod failure;
 mod help;
 mod line;
+mod lines;
 mod options;
 mod refusals;
 mod replay;
+mod routines;
 mod run;
 
 use std::env;
@@ -35,6 +37,7 @@ fn dispatched(words: &[OsString]) -> Result<(), Failure> {
     match first.to_str() {
         Some("run") => run::command(rest),
         Some("replay") => replay::command(rest),
+        Some("routines") => routines::command(rest),
         Some("refusals") => refusals::command(rest),
         Some("help" | "--help" | "-h") => help::print(help::HELP),
         Some("--version" | "-V") => help::print(&help::version()),

@@ -5,7 +5,7 @@ use std::fs::File;
 use std::io::{self, BufRead, BufReader};
 use std::path::PathBuf;
 
-use psic::Controller;
+use psic::Refusal;
 
 use crate::failure::Failure;
 
@@ -49,10 +49,10 @@ impl Options {
         })
     }
 
-    /// A fresh controller of the sizes.
-    pub fn controller(&self) -> Result<Controller, Failure> {
+    /// What is made of the sizes: a fresh controller or simulation.
+    pub fn fresh<T>(&self, make: impl Fn(u16, u16) -> Result<T, Refusal>) -> Result<T, Failure> {
         let (n, m) = (self.sources, self.cores);
-        Controller::new(n, m)
+        make(n, m)
             .map_err(|refusal| Failure::input(format!("{n} sources and {m} cores: {refusal}")))
     }
 }

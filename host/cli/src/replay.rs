@@ -17,7 +17,7 @@ pub fn command(words: &[OsString]) -> Result<(), Failure> {
     let mut options = Options::of("replay", words)?;
     let input = options.input.take();
     let input = input.ok_or_else(|| needs("replay", "FILE, or '-' for standard input"))?;
-    let controller = options.controller()?;
+    let controller = options.fresh(Controller::new)?;
     let name = input.name();
     let mut text = Vec::new();
     input

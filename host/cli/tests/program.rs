@@ -6,6 +6,7 @@ use std::process::{Command, Output, Stdio};
 
 const EXAMPLE: &str = "../examples/two_beams.txt";
 const RECORDING: &str = "../examples/two_beams.vcd";
+const HANDOVER: &str = "../examples/handover.txt";
 
 fn psic(words: &[&str]) -> Command {
     let mut command = Command::new(env!("CARGO_BIN_EXE_psic"));
@@ -127,7 +128,7 @@ fn bad_input_has_status_1() {
 
 #[test]
 fn wrong_usage_has_status_2_and_points_to_the_help() {
-    let wrong: [&[&str]; 16] = [
+    let wrong: [&[&str]; 19] = [
         &[],
         &["walk"],
         &["run"],
@@ -152,6 +153,9 @@ fn wrong_usage_has_status_2_and_points_to_the_help() {
             "--all",
         ],
         &["replay", RECORDING, "-", "--sources", "4", "--cores", "4"],
+        &["routines", "--sources", "3"],
+        &["routines", "--cores", "2", HANDOVER],
+        &["routines", "--sources", "3", "--cores", "2", "--table"],
     ];
     for words in wrong {
         let (status, out, err) = answered(words, b"");
@@ -169,6 +173,7 @@ fn a_write_that_fails_is_told() {
     for words in [
         &[&SIZES[..], &[EXAMPLE]].concat()[..],
         &["replay", RECORDING, "--sources", "4", "--cores", "4"],
+        &["routines", HANDOVER, "--sources", "3", "--cores", "2"],
         &["refusals"],
         &["--help"],
         &["--version"],
@@ -203,10 +208,10 @@ fn the_help_names_every_command() {
     for word in ["--help", "-h", "help"] {
         let (status, out, _) = answered(&[word], b"");
         assert_eq!(status, 0);
-        for form in psic::Command::FORMS {
+        for form in psic::Command::FORMS.iter().chain(&psic::RoutineCall::FORMS) {
             assert!(out.contains(form), "{form}");
         }
-        for command in ["psic run", "psic replay", "psic refusals"] {
+        for command in ["psic run", "psic replay", "psic routines", "psic refusals"] {
             assert!(out.contains(&format!("\n{command}\n")), "{command}");
         }
     }
@@ -402,6 +407,109 @@ fn a_long_recording_is_replayed_in_silence() {
     assert!(out.ends_with(
         "\ncommands: 65535, accepted: 65535, refused: 0\ncycles: 0, at most 0 a command\n"
     ));
+}
+
+const ROUTINES: [&str; 5] = ["routines", "--sources", "3", "--cores", "2"];
+
+#[test]
+fn the_worked_handover_is_as_stored() {
+    let stored = include_str!("../../examples/handover.stdout").to_string();
+    let by_file = answered(&[&ROUTINES[..], &[HANDOVER]].concat(), b"");
+    assert_eq!(by_file, (0, stored.clone(), String::new()));
+    let input = include_bytes!("../../examples/handover.txt");
+    assert_eq!(answered(&ROUTINES, input).1, stored);
+    assert_eq!(answered(&[&ROUTINES[..], &["-"]].concat(), input).1, stored);
+}
+
+/// Calls of the worked handover, up to the claim by core 1.
+fn up_to_the_handover() -> String {
+    let text = include_str!("../../examples/handover.txt");
+    let lines = text.lines().take_while(|line| *line != "exit on core 0");
+    lines.map(|line| format!("{line}\n")).collect()
+}
+
+#[test]
+fn handovers_are_counted_there_and_back() {
+    let back = "set source 2 to 6\ntrigger 2\nenter on core 1\nexit on core 0\nenter on core 0\n";
+    let input = [&up_to_the_handover(), back].concat();
+    let (status, out, err) = answered(&ROUTINES, input.as_bytes());
+    assert_eq!((status, err.as_str()), (0, ""));
+    let expected = "\
+enter on core 0: accepted, id 1, 0 cycles, [2,6]  active [1,2]  1: software  2: software
+handovers:
+    from core 0 to core 1: 1
+    from core 1 to core 0: 1
+";
+    assert!(out.ends_with(expected), "{out}");
+}
+
+/// A refused call is an answer, and the run goes on; without a handover there is no table.
+#[test]
+fn a_refused_call_is_answered_in_words() {
+    let input =
+        "enter on core 2\nenter on core 0\nexit on core 1\ntrigger 4\ntrigger 1\ntrigger 1\n";
+    let expected = "\
+enter on core 2: refused by 3 (there is no such core), 0 cycles, [0,0]  active [-,-]
+enter on core 0: refused by 7 (the box is empty), 0 cycles, [0,0]  active [-,-]
+exit on core 1: refused by 8 (the core is idle), 0 cycles, [0,0]  active [-,-]
+trigger 4: refused by 4 (there is no such source), 0 cycles, [0,0]  active [-,-]
+trigger 1: accepted, 0 cycles, [0,0]  active [-,-]  1: source
+trigger 1: refused by 6 (the source is pending already), 0 cycles, [0,0]  active [-,-]  1: source
+";
+    assert_eq!(
+        answered(&ROUTINES, input.as_bytes()),
+        (0, expected.to_string(), String::new())
+    );
+}
+
+/// The other four commands are no calls. What was answered before, and its handovers, are printed.
+#[test]
+fn a_line_that_is_no_call_is_named_and_ends_the_run() {
+    let before = up_to_the_handover();
+    let line = before.lines().count() + 1;
+    for (bad, why) in [
+        (
+            "claim on core 0",
+            "'claim on core 0' is no call of the simulation",
+        ),
+        (
+            "set core 0 to 0",
+            "'set core 0 to 0' is no call of the simulation",
+        ),
+        ("redeliver 1", "'redeliver 1' is no call of the simulation"),
+        ("complete 1", "'complete 1' is no call of the simulation"),
+        (
+            "enter core 0",
+            "'enter core 0' is no call of the simulation",
+        ),
+        ("exit on core -1", "'-1' is no number from 0 to 65535"),
+    ] {
+        let input = [&before, bad, "\nexit on core 0\n"].concat();
+        let (status, out, err) = answered(&ROUTINES, input.as_bytes());
+        assert_eq!(status, 1, "{bad}");
+        let last =
+            "active [3,1]  1: software  3: software\nhandovers:\n    from core 0 to core 1: 1\n";
+        assert!(out.ends_with(last), "{bad}");
+        assert_eq!(err, format!("psic: standard input, line {line}: {why}\n"));
+    }
+}
+
+#[test]
+fn a_simulation_that_can_not_be_made_or_read_has_status_1() {
+    for (words, expected) in [
+        (
+            ["routines", "--sources", "3", "--cores", "33", HANDOVER],
+            "3 sources and 33 cores: refused by 2 ",
+        ),
+        (
+            ["routines", "--sources", "3", "--cores", "2", "no such file"],
+            "no such file can't be opened: ",
+        ),
+    ] {
+        let (status, out, err) = answered(&words, b"");
+        assert_eq!((status, out.as_str()), (1, ""), "{words:?}");
+        assert!(err.starts_with(&format!("psic: {expected}")), "{err}");
+    }
 }
 
 /// The program, the wrapper, the library, the C header and the change log are of one version.

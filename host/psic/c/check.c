@@ -1,6 +1,6 @@
 /* The header against the library, in C and in C++: T2 to T8 of document 01's table by the typed commands, the run of document 02's
- * request 2/14, every accessor, a list, the calls on lent records, document 01's recording read and replayed, refusals of each kind
- * that a host can meet, and the version. */
+ * request 2/14, every accessor, a list, the calls on lent records, document 01's recording read and replayed, a handover between
+ * interrupt routines, refusals of each kind that a host can meet, and the version. */
 #include <errno.h>
 #include <stdio.h>
 #include <string.h>
@@ -218,6 +218,89 @@ static void replays(void) {
     expect(memcmp(&state, &expected, sizeof state) == 0, "the state is that of trigger 4");
 }
 
+/* Three sources, unmasked with priority equal to their id, on two cores. */
+static void start_routines(psic_routines *routines) {
+    memset(routines, 0x99, sizeof *routines);
+    expect(answers(psic_routines_init(routines, 3, 33), PSIC_BAD_SIZE, 0, 0) && untouched(routines, sizeof *routines), "33 cores: 2");
+    expect(answers(psic_routines_init(routines, 3, 2), PSIC_OK, 0, 0), "a simulation is made");
+    for (uint16_t id = 1; id <= 3; id++) {
+        expect(answers(psic_routines_set_source_priority(routines, psic_source_id_of(id), id), PSIC_OK, 0, 0), "priority");
+        expect(answers(psic_routines_mask(routines, psic_source_id_of(id)), PSIC_OK, 0, 0), "mask");
+        expect(answers(psic_routines_unmask(routines, psic_source_id_of(id)), PSIC_OK, 0, 0), "unmask");
+    }
+}
+
+static bool active(const psic_routines *routines, uint16_t first, uint16_t second) {
+    return psic_routines_active(routines, psic_core_id_of(0)).number == first
+           && psic_routines_active(routines, psic_core_id_of(1)).number == second;
+}
+
+static bool last_held(const psic_routines *routines, uint16_t id, bool held, uint16_t core) {
+    psic_holder last = psic_routines_last_holder(routines, psic_source_id_of(id));
+    return last.held == held && last.core.number == core;
+}
+
+/* Request 1 runs on core 0, is interrupted there by 3, and is next claimed by core 1. */
+static void handover(void) {
+    psic_routines routines;
+    psic_handovers handovers = {{{0}}};
+    const psic_core_id core_0 = psic_core_id_of(0), core_1 = psic_core_id_of(1);
+    start_routines(&routines);
+    expect(answers(psic_routines_trigger(&routines, psic_source_id_of(1)), PSIC_OK, 0, 1), "1 is delivered");
+    expect(answers(psic_routines_enter(&routines, &handovers, core_0), PSIC_OK, 1, 0) && active(&routines, 1, 0), "1 runs on core 0");
+    psic_routines_trigger(&routines, psic_source_id_of(2));
+    expect(answers(psic_routines_enter(&routines, &handovers, core_1), PSIC_OK, 2, 0) && active(&routines, 1, 2), "2 runs on core 1");
+    psic_routines_trigger(&routines, psic_source_id_of(3));
+    expect(answers(psic_routines_enter(&routines, &handovers, core_0), PSIC_OK, 3, 0) && active(&routines, 3, 2), "3 interrupts 1");
+    expect(owned(&routines.state, 1, PSIC_OWNER_SOURCE, 0) && last_held(&routines, 1, true, 0), "1 waits, last held by core 0");
+    expect(answers(psic_routines_exit(&routines, core_1), PSIC_OK, 0, 1) && active(&routines, 3, 0), "1 goes to core 1");
+    expect(psic_handovers_at(&handovers, core_0, core_1) == 0, "not yet claimed there");
+    expect(answers(psic_routines_enter(&routines, &handovers, core_1), PSIC_OK, 1, 0) && active(&routines, 3, 1), "1 runs on core 1");
+    expect(psic_handovers_at(&handovers, core_0, core_1) == 1 && psic_handovers_at(&handovers, core_1, core_0) == 0, "a handover");
+    expect(last_held(&routines, 1, true, 1) && last_held(&routines, 2, true, 1) && last_held(&routines, 3, true, 0), "last holders");
+}
+
+static void refused_routines(void) {
+    psic_routines routines, before;
+    psic_handovers handovers = {{{0}}};
+    start_routines(&routines);
+    before = routines;
+    expect(answers(psic_routines_enter(&routines, &handovers, psic_core_id_of(2)), PSIC_BAD_CORE, 0, 0), "entry: 3");
+    expect(answers(psic_routines_enter(&routines, &handovers, psic_core_id_of(0)), PSIC_EMPTY_BOX, 0, 0), "entry on an empty box: 7");
+    expect(answers(psic_routines_exit(&routines, psic_core_id_of(0)), PSIC_NOT_CLAIMED, 0, 0), "exit on an idle core: 8");
+    expect(answers(psic_routines_call(&routines, &handovers, PSIC_CLAIM, 0, 0), PSIC_UNREADABLE, 0, 0), "claim is no call: 255");
+    expect(memcmp(&routines, &before, sizeof routines) == 0, "a refusal leaves the simulation as it was");
+    expect(active(&routines, 0, 0) && last_held(&routines, 1, false, 0), "idle cores, nothing held");
+    routines.active[2] = 1;
+    expect(psic_routines_active(&routines, psic_core_id_of(2)).number == 0, "no core 2");
+    expect(answers(psic_routines_trigger(&routines, psic_source_id_of(1)), PSIC_UNSOUND, 0, 0), "a core past m isn't idle: 1");
+    expect(!psic_routines_last_holder(&routines, psic_source_id_of(0)).held, "no source 0");
+    expect(psic_handovers_at(&handovers, psic_core_id_of(0), psic_core_id_of(32)) == 0, "no core 32");
+    memset(&routines, 0xff, sizeof routines);
+    expect(psic_routines_active(&routines, psic_core_id_of(65535)).number == 0, "any numbers can be read: active ids");
+    expect(!psic_routines_last_holder(&routines, psic_source_id_of(65535)).held, "any numbers can be read: last holders");
+    expect(answers(psic_routines_trigger(&routines, psic_source_id_of(1)), PSIC_UNREADABLE, 0, 0), "flags of 255: 255");
+}
+
+/* The library's own calls: an entry, and a list that a number of no call ends. */
+static void listed_routines(void) {
+    psic_routines routines;
+    psic_handovers handovers = {{{0}}};
+    const uint8_t list[3 * PSIC_COMMAND_SIZE] = {PSIC_TRIGGER, 1, 0, 0, 0, PSIC_EXIT, 0, 0, 0, 0, PSIC_CLAIM, 1, 0, 0, 0};
+    const uint8_t right[3 * PSIC_ANSWER_SIZE] = {0, 0, 0, 1, 0, 0, 0, 0, 2, 0, 9, 9, 9, 9, 9};
+    uint8_t got[3 * PSIC_ANSWER_SIZE];
+    memset(got, 9, sizeof got);
+    start_routines(&routines);
+    psic_routines_trigger(&routines, psic_source_id_of(3));
+    expect(psic_enter(routines.state.bytes, sizeof routines.state, routines.active, 32, routines.holder, 128, 0) == 3 * 256, "id 3");
+    expect(psic_enter(routines.state.bytes, sizeof routines.state, routines.active, 31, routines.holder, 128, 0) == 255, "31 cores: 255");
+    expect(psic_simulate(routines.state.bytes, sizeof routines.state, routines.active, 32, routines.holder, 128, list, sizeof list, got,
+                         sizeof got, &handovers.cells[0][0], PSIC_TABLE_CELLS) == 2, "two calls and a number that is none");
+    expect(memcmp(got, right, sizeof right) == 0, "one cycle; two cycles, since exit takes 1 back and delivers it to core 0; the rest left");
+    expect(psic_simulate(routines.state.bytes, sizeof routines.state, routines.active, 32, routines.holder, 128, list, sizeof list, got,
+                         sizeof got, &handovers.cells[0][0], PSIC_TABLE_CELLS - 1) == PSIC_NO_COUNT, "a short table");
+}
+
 int main(void) {
     errno = 77;
     table();
@@ -229,6 +312,9 @@ int main(void) {
     recordings();
     no_room();
     replays();
+    handover();
+    refused_routines();
+    listed_routines();
     expect(errno == 77, "errno is left alone");
     expect(psic_version() == PSIC_VERSION, "the header is the library's");
     printf("%d passed, %d failed\n", passed, failed);

@@ -83,6 +83,37 @@ static void *replay_recording(void *unused) {
     return report.count == 3 * PSIC_MAX_SOURCES && report.number == PSIC_BAD_TEXT ? unused : text;
 }
 
+static psic_routines routines;
+static uint16_t handovers[PSIC_TABLE_CELLS];
+
+static void *make_routines(void *unused) {
+    return psic_routines_init(&routines, PSIC_MAX_SOURCES, PSIC_MAX_CORES).number == PSIC_OK ? unused : &routines;
+}
+
+/* Sources of rising priority are triggered and entered, core after core, so that routines are interrupted and wait, while others exit. */
+static void *simulate(void *unused) {
+    static uint8_t answers[5 * PSIC_MAX_SOURCES * PSIC_ANSWER_SIZE];
+    static uint8_t list[5 * PSIC_MAX_SOURCES * PSIC_COMMAND_SIZE];
+    for (uint8_t i = 0; i < PSIC_MAX_SOURCES; i++) {
+        const uint8_t id = (uint8_t)(i + 1), core = i % PSIC_MAX_CORES;
+        const uint8_t five[5 * PSIC_COMMAND_SIZE] = {PSIC_SET_SOURCE_PRIORITY, id, 0, id, 0, PSIC_UNMASK, id, 0, 0, 0, PSIC_TRIGGER, id, 0,
+                                                     0, 0, PSIC_ENTER, core, 0, 0, 0, PSIC_EXIT, (uint8_t)(31 - i / 4), 0, 0, 0};
+        memcpy(list + sizeof five * i, five, sizeof five);
+    }
+    uint64_t taken = psic_simulate(routines.state.bytes, sizeof routines.state, routines.active, PSIC_MAX_CORES, routines.holder,
+                                   PSIC_MAX_SOURCES, list, sizeof list, answers, sizeof answers, handovers, PSIC_TABLE_CELLS);
+    return taken == 5 * PSIC_MAX_SOURCES && answers[0] == PSIC_OK ? unused : &routines;
+}
+
+/* Each core enters, where its box is filled, and exits. */
+static void *enter_and_exit(void *unused) {
+    for (uint16_t core = 0; core < PSIC_MAX_CORES; core++) {
+        psic_enter(routines.state.bytes, sizeof routines.state, routines.active, PSIC_MAX_CORES, routines.holder, PSIC_MAX_SOURCES, core);
+        psic_exit(routines.state.bytes, sizeof routines.state, routines.active, PSIC_MAX_CORES, routines.holder, PSIC_MAX_SOURCES, core);
+    }
+    return unused;
+}
+
 /* The bytes of a fresh stack that a thread doing this has written to. */
 static size_t taken_by(void *(*doing)(void *)) {
     unsigned char *stack = (unsigned char *)aligned_alloc(4096, STACK);
@@ -103,8 +134,11 @@ static size_t taken_by(void *(*doing)(void *)) {
 }
 
 int main(void) {
-    void *(*const calls[])(void *) = {make, run_list, each_command, lent_records, read_recording, replay_recording};
-    const char *const names[] = {"psic_make", "psic_run", "psic_execute", "the calls on lent records", "psic_read", "psic_replay"};
+    void *(*const calls[])(void *) = {make,           run_list,         each_command,  lent_records,
+                                      read_recording, replay_recording, make_routines, simulate,
+                                      enter_and_exit};
+    const char *const names[] = {"psic_make",   "psic_run",           "psic_execute",  "the calls on lent records", "psic_read",
+                                 "psic_replay", "psic_make_routines", "psic_simulate", "psic_enter and psic_exit"};
     const int count = (int)(sizeof calls / sizeof calls[0]);
     int failed = 0;
     size_t base = taken_by(nothing);

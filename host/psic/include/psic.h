@@ -2,7 +2,8 @@
  * The proved model of the PSIC interrupt controller, for programs in C11 and C++11 on x86-64 Linux.
  *
  * tools/library builds libpsic.a and puts it beside this header; link with -lpsic, or by pkg-config. A controller's state is
- * PSIC_STATE_SIZE bytes that the host owns. "Document 01" is the paper of exact rules; its words are quoted.
+ * PSIC_STATE_SIZE bytes that the host owns. "Document 01" is the paper of exact rules, "document 02" that of later requests; their words
+ * are quoted.
  *
  *   psic_state state;
  *   if (psic_init(&state, 32, 2).number != PSIC_OK) ..               a fresh controller: 32 sources, 2 cores
@@ -11,6 +12,11 @@
  *   if (answer.number != PSIC_OK) puts(psic_in_words(answer.number));
  *   uint16_t shown = psic_current_priority(&state, psic_core_id_of(0));
  *   psic_report report = psic_replay(32, 2, text, length, state.bytes, sizeof state.bytes, answers, PSIC_ANSWER_SIZE * psic_room(length));
+ *
+ *   psic_routines routines;                                          the interrupt routines on all cores, simulated
+ *   psic_handovers handovers = {{{0}}};
+ *   if (psic_routines_init(&routines, 32, 2).number != PSIC_OK) ..
+ *   psic_routines_enter(&routines, &handovers, psic_core_id_of(0));
  *
  * What holds of every call:
  *   - It ends and answers, whatever the bytes and numbers that it is given.
@@ -30,8 +36,8 @@
 #include <stdint.h>
 
 /* The version of this header: ten thousand times the major number, a hundred times the minor one, and the patch. */
-#define PSIC_VERSION 20100u
-#define PSIC_VERSION_TEXT "2.1.0"
+#define PSIC_VERSION 20200u
+#define PSIC_VERSION_TEXT "2.2.0"
 
 /* The largest sizes: "n sources, 1 to 128", "m cores, 1 to 32". */
 #define PSIC_MAX_SOURCES 128u
@@ -42,17 +48,23 @@
 #define PSIC_COMMAND_SIZE 5u
 #define PSIC_ANSWER_SIZE 5u
 
+/* Bytes of a simulation of the interrupt routines, and cells of its table of handovers. */
+#define PSIC_ROUTINES_SIZE 1476u
+#define PSIC_TABLE_CELLS 1024u
+
 /* The most commands that are taken from one recording. */
 #define PSIC_MAX_COMMANDS 65535u
 
-/* psic_run's answer where it runs nothing and writes nothing. */
+/* The answer of psic_run and psic_simulate where they run nothing and write nothing. */
 #define PSIC_NO_COUNT UINT64_MAX
 
 #ifdef __cplusplus
 #define PSIC_ASSERT_SIZE(type, size) static_assert(sizeof(type) == (size), #type " has the library's size")
+#define PSIC_ASSERT_OFFSET(type, member, offset) static_assert(offsetof(type, member) == (offset), #type " has the library's layout")
 extern "C" {
 #else
 #define PSIC_ASSERT_SIZE(type, size) _Static_assert(sizeof(type) == (size), #type " has the library's size")
+#define PSIC_ASSERT_OFFSET(type, member, offset) _Static_assert(offsetof(type, member) == (offset), #type " has the library's layout")
 #endif
 
 /* ---- names for numbers ---- */
@@ -69,18 +81,26 @@ typedef enum {
     PSIC_COMPLETE = 7             /* "a claimed request ends; pending and delivered off" */
 } psic_command;
 
+/* What a simulation of the interrupt routines takes beside the commands 0, 1, 2 and 4, with document 02's words. */
+typedef enum {
+    PSIC_ENTER = 16, /* "entry claims, redelivers the interrupted request if there is one, and makes the new one active" */
+    PSIC_EXIT = 17   /* "exit completes and sets the core to 0" */
+} psic_routine;
+
 /* Document 01's numbers for no, each with its row: "given exactly when, no earlier check refusing". They are checked in the order
  * 1, then 3 or 4, then 5, then 6, 7 or 8. */
 typedef enum {
     PSIC_OK = 0,
-    PSIC_UNSOUND = 1,      /* "the state isn't sound, or a filled lent record is bad" */
+    PSIC_UNSOUND = 1,      /* "the state isn't sound, or a filled lent record is bad"; in a simulation "also unless each claimed request
+                              is active on exactly one core, at that core's configured priority and last held by it, all other cores
+                              idle at 0 and every last holder is below m" */
     PSIC_BAD_SIZE = 2,     /* "a controller is asked for with n or m out of range, or a lent list is too long" */
     PSIC_BAD_CORE = 3,     /* "core is m or above" */
     PSIC_BAD_SOURCE = 4,   /* "id is 0 or above n" */
     PSIC_BAD_PRIORITY = 5, /* "source priority 0 or above top; core priority above top" */
     PSIC_PENDING = 6,      /* "trigger of a pending source" */
-    PSIC_EMPTY_BOX = 7,    /* "claim on an empty box, in a state or in a lent record" */
-    PSIC_NOT_CLAIMED = 8,  /* "redeliver or complete of a request that isn't claimed" */
+    PSIC_EMPTY_BOX = 7,    /* "claim on an empty box, in a state or in a lent record"; "entry on an empty box" */
+    PSIC_NOT_CLAIMED = 8,  /* "redeliver or complete of a request that isn't claimed"; "exit on an idle core" */
     /* document 02's, of a recording: the first fault in reading order, at one place in the order 13, 19, 11, 12, 14 */
     PSIC_BAD_TEXT = 11,          /* "text against that grammar or a time above 2^64 - 1" */
     PSIC_BAD_VARIABLE = 12,      /* "a variable missing, repeated, of another name or width, or a code used twice, shown at the name, a
@@ -89,7 +109,8 @@ typedef enum {
     PSIC_TIME_NOT_RISING = 14,   /* "time not rising" */
     PSIC_TOO_MANY_COMMANDS = 19, /* "a command after the 65,535th" */
     PSIC_UNREADABLE = 255  /* none of document 01's: a state's buffer of another length or with a flag that is neither 0 nor 1, a
-                              command's number above 7, or a buffer without room for what a recording may hold */
+                              command's number above 7, a buffer without room for what a recording may hold, or active ids or last
+                              holders of another length */
 } psic_number;
 
 /* A number for no in words; of another number, that it is none. */
@@ -186,7 +207,7 @@ typedef struct {
     uint64_t offset;
 } psic_report;
 
-/* What a command answers: the claimed id is 0 but for an accepted claim; the cycles are retractions plus deliveries. */
+/* What a command answers: the claimed id is 0 but for an accepted claim or entry; the cycles are retractions plus deliveries. */
 typedef struct {
     psic_number number;
     psic_source_id id;
@@ -198,6 +219,19 @@ typedef struct {
     uint8_t bytes[PSIC_STATE_SIZE];
 } psic_state;
 
+/* A simulation of the interrupt routines on all cores. psic_routines_init makes one; a copy is a simulation of its own. */
+typedef struct {
+    psic_state state;                  /* the controller's, open to everything that reads a state */
+    uint16_t active[PSIC_MAX_CORES];   /* by core: the id of the request whose routine runs there; 0 if the core is idle */
+    uint16_t holder[PSIC_MAX_SOURCES]; /* by source, source 1 first: the core that last held its request, plus one; 0 for none */
+} psic_routines;
+
+/* The count of handovers: "a table of cores by cores, how often a request last held by one (the row) was next claimed by another (a new
+ * trigger is a new request), held at 65,535". All zeros at first. */
+typedef struct {
+    uint16_t cells[PSIC_MAX_CORES][PSIC_MAX_CORES];
+} psic_handovers;
+
 PSIC_ASSERT_SIZE(psic_source_id, 2);
 PSIC_ASSERT_SIZE(psic_core_id, 2);
 PSIC_ASSERT_SIZE(psic_source, 8);
@@ -208,6 +242,10 @@ PSIC_ASSERT_SIZE(psic_ranged, 4);
 PSIC_ASSERT_SIZE(psic_claimed, 4);
 PSIC_ASSERT_SIZE(psic_report, 16);
 PSIC_ASSERT_SIZE(psic_state, PSIC_STATE_SIZE);
+PSIC_ASSERT_SIZE(psic_routines, PSIC_ROUTINES_SIZE);
+PSIC_ASSERT_OFFSET(psic_routines, active, 1156);
+PSIC_ASSERT_OFFSET(psic_routines, holder, 1220);
+PSIC_ASSERT_SIZE(psic_handovers, 2 * PSIC_TABLE_CELLS);
 
 /* ---- the library's calls: proved, on any bytes ---- */
 
@@ -256,6 +294,27 @@ psic_report psic_read(const uint8_t *text, size_t text_len, uint8_t *commands, s
  * for psic_room(text_len) answers, is PSIC_UNREADABLE first of all. What the state's buffer holds before doesn't matter. */
 psic_report psic_replay(uint16_t n, uint16_t m, const uint8_t *text, size_t text_len, uint8_t *state, size_t state_len, uint8_t *answers,
                         size_t answers_len);
+
+/* A fresh simulation of n sources and m cores: a fresh controller, every core idle, nothing held. As the next two calls, it answers as
+ * psic_make does; lengths are in bytes for the state, else in numbers. */
+uint64_t psic_make_routines(uint16_t n, uint16_t m, uint8_t *state, size_t state_len, uint16_t *active, size_t active_len,
+                            uint16_t *holder, size_t holder_len);
+
+/* Entry of a routine on a core: it answers the claimed id. A handover isn't counted; psic_simulate counts. */
+uint64_t psic_enter(uint8_t *state, size_t state_len, uint16_t *active, size_t active_len, uint16_t *holder, size_t holder_len,
+                    uint16_t core);
+
+/* Exit of the routine that is active on a core. */
+uint64_t psic_exit(uint8_t *state, size_t state_len, uint16_t *active, size_t active_len, uint16_t *holder, size_t holder_len,
+                   uint16_t core);
+
+/* A list of calls on a simulation, PSIC_COMMAND_SIZE bytes each as psic_run's commands: PSIC_SET_SOURCE_PRIORITY, PSIC_MASK, PSIC_UNMASK,
+ * PSIC_TRIGGER, PSIC_ENTER or PSIC_EXIT. An answer of PSIC_ANSWER_SIZE bytes for each is written to the front of answers, and handovers are
+ * counted on in the table, PSIC_TABLE_CELLS numbers, the cell of row r and column c at 32 r + c. A refused call is answered, and the list
+ * goes on; another number ends it. Returns how many calls were taken; PSIC_NO_COUNT, with nothing written, if the simulation can't be
+ * read, the list is no whole number of calls, answers is shorter than the list, or the table has another length. */
+uint64_t psic_simulate(uint8_t *state, size_t state_len, uint16_t *active, size_t active_len, uint16_t *holder, size_t holder_len,
+                       const uint8_t *list, size_t list_len, uint8_t *answers, size_t answers_len, uint16_t *table, size_t table_len);
 
 /* ---- a controller, by commands with types ---- */
 
@@ -430,6 +489,86 @@ static inline psic_owner psic_owner_of(const psic_state *state, psic_source_id s
         }
     }
     return owner;
+}
+
+/* ---- the interrupt routines, by calls with types; only an entry counts a handover, so it takes the table ---- */
+
+/* A fresh simulation. The table of handovers isn't part of it: set it to zeros. */
+static inline psic_answer psic_routines_init(psic_routines *routines, uint16_t sources, uint16_t cores) {
+    return psic_unpacked(psic_make_routines(sources, cores, routines->state.bytes, sizeof routines->state.bytes, routines->active,
+                                            PSIC_MAX_CORES, routines->holder, PSIC_MAX_SOURCES));
+}
+
+/* One call by its number, as a list of one. A number that names no call is PSIC_UNREADABLE. */
+static inline psic_answer psic_routines_call(psic_routines *routines, psic_handovers *handovers, uint8_t number, uint16_t at,
+                                             uint16_t priority) {
+    const uint8_t list[PSIC_COMMAND_SIZE] = {number, (uint8_t)(at & 0xff), (uint8_t)(at >> 8), (uint8_t)(priority & 0xff),
+                                             (uint8_t)(priority >> 8)};
+    uint8_t answers[PSIC_ANSWER_SIZE] = {PSIC_UNREADABLE, 0, 0, 0, 0};
+    psic_simulate(routines->state.bytes, sizeof routines->state.bytes, routines->active, PSIC_MAX_CORES, routines->holder,
+                  PSIC_MAX_SOURCES, list, sizeof list, answers, sizeof answers, &handovers->cells[0][0], PSIC_TABLE_CELLS);
+    return psic_answer_at(answers, 0);
+}
+
+/* One of the four commands, which count no handover. */
+static inline psic_answer psic_routines_command(psic_routines *routines, psic_command command, psic_source_id source, uint16_t priority) {
+    psic_handovers unused = {{{0}}};
+    return psic_routines_call(routines, &unused, (uint8_t)command, source.number, priority);
+}
+
+static inline psic_answer psic_routines_set_source_priority(psic_routines *routines, psic_source_id source, uint16_t priority) {
+    return psic_routines_command(routines, PSIC_SET_SOURCE_PRIORITY, source, priority);
+}
+
+static inline psic_answer psic_routines_mask(psic_routines *routines, psic_source_id source) {
+    return psic_routines_command(routines, PSIC_MASK, source, 0);
+}
+
+static inline psic_answer psic_routines_unmask(psic_routines *routines, psic_source_id source) {
+    return psic_routines_command(routines, PSIC_UNMASK, source, 0);
+}
+
+static inline psic_answer psic_routines_trigger(psic_routines *routines, psic_source_id source) {
+    return psic_routines_command(routines, PSIC_TRIGGER, source, 0);
+}
+
+/* The one call that answers an id. A handover is counted on in the table. */
+static inline psic_answer psic_routines_enter(psic_routines *routines, psic_handovers *handovers, psic_core_id core) {
+    return psic_routines_call(routines, handovers, PSIC_ENTER, core.number, 0);
+}
+
+static inline psic_answer psic_routines_exit(psic_routines *routines, psic_core_id core) {
+    return psic_unpacked(psic_exit(routines->state.bytes, sizeof routines->state.bytes, routines->active, PSIC_MAX_CORES, routines->holder,
+                                   PSIC_MAX_SOURCES, core.number));
+}
+
+/* The id that is active on a core; 0 if the core is idle, or m or above. */
+static inline psic_source_id psic_routines_active(const psic_routines *routines, psic_core_id core) {
+    bool inside = core.number < psic_cores(&routines->state) && core.number < PSIC_MAX_CORES;
+    return psic_source_id_of(inside ? routines->active[core.number] : 0);
+}
+
+/* The core that last held a source's request, also after the request's exit, until the next trigger. */
+typedef struct {
+    bool held; /* whether there is one */
+    psic_core_id core;
+} psic_holder;
+
+static inline psic_holder psic_routines_last_holder(const psic_routines *routines, psic_source_id source) {
+    psic_holder last = {false, {0}};
+    bool inside = source.number <= psic_sources(&routines->state) && source.number <= PSIC_MAX_SOURCES;
+    uint16_t holder = source.number != 0 && inside ? routines->holder[source.number - 1] : 0;
+    if (holder != 0) {
+        last.held = true;
+        last.core = psic_core_id_of((uint16_t)(holder - 1));
+    }
+    return last;
+}
+
+/* How often a request last held by one core was next claimed by another; 0 if there is no such core. */
+static inline uint16_t psic_handovers_at(const psic_handovers *handovers, psic_core_id row, psic_core_id column) {
+    bool inside = row.number < PSIC_MAX_CORES && column.number < PSIC_MAX_CORES;
+    return inside ? handovers->cells[row.number][column.number] : 0;
 }
 
 #ifdef __cplusplus

@@ -11,7 +11,7 @@ pub const ANSWER_SIZE: usize = 5;
 /// What an accepted command answers.
 #[derive(Clone, Copy, Debug, PartialEq, Eq, Hash)]
 pub struct Answer {
-    /// The claimed id. Only a claim has one.
+    /// The claimed id. Only a claim and a routine's entry have one.
     pub claimed: Option<SourceId>,
     /// The cycles of settling: retractions plus deliveries.
     pub cycles: u16,
@@ -32,7 +32,7 @@ impl Answer {
         Answer::from_numbers(packed as u8, (packed >> 8) as u16, (packed >> 24) as u16)
     }
 
-    /// An answer of a list, as [`crate::bytes::run`] writes it.
+    /// An answer of a list, as [`crate::bytes::run`] and [`crate::raw::simulate`] write it.
     ///
     /// # Panics
     ///
@@ -65,7 +65,8 @@ impl fmt::Display for Answer {
 #[non_exhaustive]
 #[derive(Clone, Copy, Debug, PartialEq, Eq, Hash)]
 pub enum Refusal {
-    /// 1: "the state isn't sound, or a filled lent record is bad".
+    /// 1: "the state isn't sound, or a filled lent record is bad"; in a simulation "also unless each claimed request is active on exactly
+    /// one core, at that core's configured priority and last held by it, all other cores idle at 0 and every last holder is below m".
     Unsound = 1,
     /// 2: "a controller is asked for with n or m out of range, or a lent list is too long".
     BadSize = 2,
@@ -77,11 +78,12 @@ pub enum Refusal {
     BadPriority = 5,
     /// 6: "trigger of a pending source".
     Pending = 6,
-    /// 7: "claim on an empty box, in a state or in a lent record".
+    /// 7: "claim on an empty box, in a state or in a lent record"; "entry on an empty box".
     EmptyBox = 7,
-    /// 8: "redeliver or complete of a request that isn't claimed".
+    /// 8: "redeliver or complete of a request that isn't claimed"; "exit on an idle core".
     NotClaimed = 8,
-    /// 255, none of document 01's: bytes that encode no state, or buffers that don't fit. A [`crate::Controller`] never answers it.
+    /// 255, none of document 01's: bytes that encode no state, or buffers that don't fit. A [`crate::Controller`] never answers it, nor
+    /// do [`crate::Routines`].
     Unreadable = 255,
 }
 

@@ -115,12 +115,14 @@ impl fmt::Display for Command {
     }
 }
 
-/// Why a text is no command.
+/// Why a text is no command, or no call of a simulation.
 #[non_exhaustive]
 #[derive(Clone, Debug, PartialEq, Eq)]
 pub enum ParseCommandError {
     /// No command has these words.
     NoCommand(String),
+    /// No call of a simulation of the interrupt routines has these words.
+    NoRoutineCall(String),
     /// A word in a number's place is no whole number from 0 to 65535.
     NoNumber(String),
 }
@@ -129,6 +131,9 @@ impl fmt::Display for ParseCommandError {
     fn fmt(&self, f: &mut fmt::Formatter<'_>) -> fmt::Result {
         match self {
             ParseCommandError::NoCommand(text) => write!(f, "'{text}' is no command"),
+            ParseCommandError::NoRoutineCall(text) => {
+                write!(f, "'{text}' is no call of the simulation")
+            }
             ParseCommandError::NoNumber(word) => write!(f, "'{word}' is no number from 0 to 65535"),
         }
     }
@@ -169,7 +174,7 @@ impl FromStr for Command {
 }
 
 /// A number in decimal digits alone: no sign.
-fn number(word: &str) -> Result<u16, ParseCommandError> {
+pub(crate) fn number(word: &str) -> Result<u16, ParseCommandError> {
     let digits = word.bytes().all(|byte| byte.is_ascii_digit());
     let number = word.parse().ok().filter(|_| digits);
     number.ok_or_else(|| ParseCommandError::NoNumber(word.to_string()))

@@ -57,6 +57,11 @@ impl Controller {
         &self.bytes
     }
 
+    /// The bytes for a call of the library that leaves them those of a state.
+    pub(crate) fn bytes_mut(&mut self) -> &mut [u8; STATE_SIZE] {
+        &mut self.bytes
+    }
+
     // ---- commands
 
     /// Runs one command.
@@ -245,23 +250,31 @@ impl Controller {
     fn flag(&self, at: usize) -> bool {
         self.bytes[at] == 1
     }
-}
 
-/// For people: the current priorities, core 0 first, and the owner of each pending request: `[4,5]  3: source  4: box 0  5: box 1`.
-impl fmt::Display for Controller {
-    fn fmt(&self, f: &mut fmt::Formatter<'_>) -> fmt::Result {
+    pub(crate) fn write_priorities(&self, f: &mut fmt::Formatter<'_>) -> fmt::Result {
         let priorities: Vec<String> = self
             .current_priorities()
             .iter()
             .map(u16::to_string)
             .collect();
-        write!(f, "[{}]", priorities.join(","))?;
+        write!(f, "[{}]", priorities.join(","))
+    }
+
+    pub(crate) fn write_owners(&self, f: &mut fmt::Formatter<'_>) -> fmt::Result {
         for (id, _) in self.sources() {
             if let Some(owner) = self.owner(id) {
                 write!(f, "  {id}: {owner}")?;
             }
         }
         Ok(())
+    }
+}
+
+/// For people: the current priorities, core 0 first, and the owner of each pending request: `[4,5]  3: source  4: box 0  5: box 1`.
+impl fmt::Display for Controller {
+    fn fmt(&self, f: &mut fmt::Formatter<'_>) -> fmt::Result {
+        self.write_priorities(f)?;
+        self.write_owners(f)
     }
 }
 

@@ -3,12 +3,14 @@
 //!
 //! - [`Controller`] owns a state: make it, put commands to it, read it.
 //! - [`read`] gives the commands of a recording, and [`replay`] puts them to a fresh controller; [`recording`] says more.
+//! - [`Routines`] simulate the interrupt routines' entry and exit on all cores; [`Handovers`] count which core took over from which.
 //! - [`highest_in`], [`ranges_in`] and [`claim_in_place`] work on records that a host keeps in tables of its own.
 //! - [`bytes`] has the calls on a state as bytes in memory of the host's own, [`raw`] the library's calls with their numbers.
 //!
 //! Every call ends and answers, whatever it is given. A refused one leaves everything as it was. The library allocates nothing, keeps
 //! nothing between calls and takes less than 16 KB of stack; this package allocates where it returns a `Vec`. A controller may be sent
-//! to another thread, and different controllers may be used at once. "Document 01" is the paper of exact rules; its words are quoted.
+//! to another thread, and different controllers may be used at once. "Document 01" is the paper of exact rules, "document 02" that of
+//! later requests; their words are quoted.
 //!
 //! What the library does is proved; this package is not, and is held against an independent model by the package `trials`.
 #![deny(unsafe_code)]
@@ -23,6 +25,8 @@ mod lent;
 pub mod raw;
 pub mod recording;
 mod records;
+mod routine_call;
+mod routines;
 
 pub use answer::{Answer, Refusal, ANSWER_SIZE};
 pub use bytes::STATE_SIZE;
@@ -31,6 +35,8 @@ pub use controller::Controller;
 pub use lent::{claim_in_place, highest_in, ranges_in};
 pub use recording::{read, replay, Fault, FaultKind, Reading, Replay, Stamped};
 pub use records::{Core, CoreId, MessageBox, Owner, Source, SourceId, MAX_CORES, MAX_SOURCES};
+pub use routine_call::RoutineCall;
+pub use routines::{Handovers, Routines, ROUTINES_SIZE};
 
 /// The version of this package as a number: ten thousand times the major number, a hundred times the minor one, and the patch.
 pub const VERSION: u32 = 10000 * number(env!("CARGO_PKG_VERSION_MAJOR"))

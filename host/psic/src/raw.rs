@@ -86,6 +86,48 @@ extern "C" {
         answers: *mut u8,
         answers_len: usize,
     ) -> Report;
+    fn psic_make_routines(
+        n: u16,
+        m: u16,
+        state: *mut u8,
+        state_len: usize,
+        active: *mut u16,
+        active_len: usize,
+        holder: *mut u16,
+        holder_len: usize,
+    ) -> u64;
+    fn psic_enter(
+        state: *mut u8,
+        state_len: usize,
+        active: *mut u16,
+        active_len: usize,
+        holder: *mut u16,
+        holder_len: usize,
+        core: u16,
+    ) -> u64;
+    fn psic_exit(
+        state: *mut u8,
+        state_len: usize,
+        active: *mut u16,
+        active_len: usize,
+        holder: *mut u16,
+        holder_len: usize,
+        core: u16,
+    ) -> u64;
+    fn psic_simulate(
+        state: *mut u8,
+        state_len: usize,
+        active: *mut u16,
+        active_len: usize,
+        holder: *mut u16,
+        holder_len: usize,
+        list: *const u8,
+        list_len: usize,
+        answers: *mut u8,
+        answers_len: usize,
+        table: *mut u16,
+        table_len: usize,
+    ) -> u64;
 }
 
 /// The library's version.
@@ -169,6 +211,91 @@ pub fn replay(n: u16, m: u16, text: &[u8], state: &mut [u8], answers: &mut [u8])
             state.len(),
             answers.as_mut_ptr(),
             answers.len(),
+        )
+    }
+}
+
+/// A fresh simulation of n sources and m cores, in 1,156 bytes for the state, 32 numbers for the active ids and 128 for the last holders:
+/// number + 256 id + 2^24 cycles, or 255.
+pub fn make_routines(
+    n: u16,
+    m: u16,
+    state: &mut [u8],
+    active: &mut [u16],
+    holder: &mut [u16],
+) -> u64 {
+    // SAFETY: pointers and lengths are those of three slices that are lent for the call alone, so that none overlaps another.
+    unsafe {
+        psic_make_routines(
+            n,
+            m,
+            state.as_mut_ptr(),
+            state.len(),
+            active.as_mut_ptr(),
+            active.len(),
+            holder.as_mut_ptr(),
+            holder.len(),
+        )
+    }
+}
+
+/// Entry of a routine on a core, without a table in which a handover would be counted: number + 256 id + 2^24 cycles, or 255.
+pub fn enter(state: &mut [u8], active: &mut [u16], holder: &mut [u16], core: u16) -> u64 {
+    // SAFETY: pointers and lengths are those of three slices that are lent for the call alone, so that none overlaps another.
+    unsafe {
+        psic_enter(
+            state.as_mut_ptr(),
+            state.len(),
+            active.as_mut_ptr(),
+            active.len(),
+            holder.as_mut_ptr(),
+            holder.len(),
+            core,
+        )
+    }
+}
+
+/// Exit of the routine that is active on a core: number + 256 id + 2^24 cycles, or 255.
+pub fn exit(state: &mut [u8], active: &mut [u16], holder: &mut [u16], core: u16) -> u64 {
+    // SAFETY: pointers and lengths are those of three slices that are lent for the call alone, so that none overlaps another.
+    unsafe {
+        psic_exit(
+            state.as_mut_ptr(),
+            state.len(),
+            active.as_mut_ptr(),
+            active.len(),
+            holder.as_mut_ptr(),
+            holder.len(),
+            core,
+        )
+    }
+}
+
+/// A list of calls on a simulation, 5 bytes each, with an answer of 5 bytes for each, and the handovers in it counted on in a table of
+/// 1,024 numbers: how many calls were taken, or 2^64 - 1.
+pub fn simulate(
+    state: &mut [u8],
+    active: &mut [u16],
+    holder: &mut [u16],
+    list: &[u8],
+    answers: &mut [u8],
+    table: &mut [u16],
+) -> u64 {
+    // SAFETY: pointers and lengths are those of six slices; five are lent for the call alone, so that none overlaps another.
+    unsafe {
+        psic_simulate(
+            state.as_mut_ptr(),
+            state.len(),
+            active.as_mut_ptr(),
+            active.len(),
+            holder.as_mut_ptr(),
+            holder.len(),
+            list.as_ptr(),
+            list.len(),
+            answers.as_mut_ptr(),
+            answers.len(),
+            table.as_mut_ptr(),
+            table.len(),
         )
     }
 }

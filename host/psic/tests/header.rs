@@ -1,6 +1,6 @@
 //! The C header and this package say the same: numbers, words, sizes.
 
-use psic::{Command, FaultKind, Refusal};
+use psic::{Command, CoreId, FaultKind, Handovers, Refusal, RoutineCall, SourceId};
 
 const HEADER: &str = include_str!("../include/psic.h");
 
@@ -47,6 +47,26 @@ fn the_header_has_the_same_numbers_and_words() {
 }
 
 #[test]
+fn the_header_has_the_same_calls_of_a_simulation() {
+    let (id, core) = (SourceId(1), CoreId(0));
+    for (name, call) in [
+        (
+            "PSIC_SET_SOURCE_PRIORITY",
+            RoutineCall::SetSourcePriority(id, 1),
+        ),
+        ("PSIC_MASK", RoutineCall::Mask(id)),
+        ("PSIC_UNMASK", RoutineCall::Unmask(id)),
+        ("PSIC_TRIGGER", RoutineCall::Trigger(id)),
+        ("PSIC_ENTER", RoutineCall::Enter(core)),
+        ("PSIC_EXIT", RoutineCall::Exit(core)),
+    ] {
+        let number = call.number();
+        let declared = [',', ' '].map(|end| HEADER.contains(&format!("{name} = {number}{end}")));
+        assert!(declared.contains(&true), "{name}");
+    }
+}
+
+#[test]
 fn the_header_has_the_same_sizes() {
     for (name, size) in [
         ("PSIC_STATE_SIZE", psic::STATE_SIZE),
@@ -55,6 +75,8 @@ fn the_header_has_the_same_sizes() {
         ("PSIC_MAX_SOURCES", psic::MAX_SOURCES),
         ("PSIC_MAX_CORES", psic::MAX_CORES),
         ("PSIC_MAX_COMMANDS", psic::recording::MAX_COMMANDS),
+        ("PSIC_ROUTINES_SIZE", psic::ROUTINES_SIZE),
+        ("PSIC_TABLE_CELLS", size_of::<Handovers>() / 2),
     ] {
         assert!(
             HEADER.contains(&format!("#define {name} {size}u\n")),
@@ -63,7 +85,7 @@ fn the_header_has_the_same_sizes() {
     }
 }
 
-/// A number is a refusal, and a line of text a command, exactly where the lists say so.
+/// A number is a refusal, and a line of text a command or a call of a simulation, exactly where the lists say so.
 #[test]
 fn numbers_and_texts_are_read_back() {
     for number in 0..=255 {
@@ -81,5 +103,12 @@ fn numbers_and_texts_are_read_back() {
         let command: Command = text.parse().expect("a form is a command");
         assert_eq!(usize::from(command.number()), number);
         assert_eq!(command.to_string(), text);
+    }
+    for form in RoutineCall::FORMS {
+        let text = form.replace("ID", "1").replace("PRIORITY", "2");
+        let text = text.replace("CORE", "0");
+        let call: RoutineCall = text.parse().expect("a form is a call");
+        assert_eq!(RoutineCall::from_bytes(call.to_bytes()), Some(call));
+        assert_eq!(call.to_string(), text);
     }
 }

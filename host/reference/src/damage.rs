@@ -100,7 +100,7 @@ fn change_core(random: &mut Random, core: &mut Core) {
 }
 
 /// Another number: a neighbour, one with the same low eight bits, a small one, or any.
-fn other_number(random: &mut Random, number: u16) -> u16 {
+pub(crate) fn other_number(random: &mut Random, number: u16) -> u16 {
     loop {
         let other = match random.below(5) {
             0 => number.wrapping_add(1),

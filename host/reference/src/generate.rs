@@ -584,7 +584,7 @@ fn pick_claimed(random: &mut Random, controller: &Controller, claimed: bool) -> 
 }
 
 /// The source priorities of one history: all there are, a few, one alone, or the two ends.
-fn palette(random: &mut Random, top: u16) -> Vec<u16> {
+pub(crate) fn palette(random: &mut Random, top: u16) -> Vec<u16> {
     match random.below(4) {
         0 => (1..=top).collect(),
         1 => (0..4).map(|_| random.within(1..=top)).collect(),

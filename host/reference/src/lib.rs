@@ -4,6 +4,7 @@
 //! - [`ledger`] and [`demand3`] are document 01's book and the check of demand 3 against it.
 //! - [`random`], [`generate`] and [`damage`] make histories, broken states and records to lend.
 //! - [`recording`] reads and replays the bus monitor's text; [`texts`] makes such texts.
+//! - [`routines`] simulates the interrupt routines on all cores.
 //! - [`model`] and [`compare`] run two models side by side on one workload.
 
 pub mod compare;
@@ -16,5 +17,6 @@ pub mod random;
 pub mod recording;
 pub mod records;
 pub mod reference;
+pub mod routines;
 pub mod texts;
 pub mod well_formed;

@@ -8,6 +8,8 @@
 //!   above the least core, and a request that is put back isn't above the least core that is then.
 //! - Set core priority empties every box, then delivers while the highest candidate is above the least core.
 
+pub mod routines;
+
 use psic::{ANSWER_SIZE, COMMAND_SIZE};
 use psic_reference::model::{Model, Reference};
 use psic_reference::records::{

@@ -7,6 +7,7 @@ use psic_reference::generate::{self, Mix};
 use psic_reference::random::Random;
 use psic_reference::records::{Command, Controller};
 use psic_reference::reference;
+use psic_reference::routines::{runs, Listed};
 
 use crate::library::numbers;
 
@@ -30,6 +31,12 @@ pub fn commands(seed: u64, n: u16, m: u16, count: usize) -> Vec<Command> {
 /// The commands of a run in which boxes stay filled and requests pile up.
 pub fn busy_commands(seed: u64, n: u16, m: u16, count: usize) -> Vec<Command> {
     generate::history(seed, n, m, count, Mix::Busy).commands
+}
+
+/// The calls of a run of the interrupt routines at these sizes, with handovers where there can be some.
+pub fn routine_calls(seed: u64, n: u16, m: u16, count: usize) -> Vec<Listed> {
+    let run = runs::run(seed, n, m, count, runs::Mix::Turnover);
+    run.calls.into_iter().map(Listed::Call).collect()
 }
 
 /// For each kind at most so many of its accepted commands, from all over the run, each with the state that it meets.

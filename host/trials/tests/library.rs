@@ -4,6 +4,7 @@
 mod lists;
 mod peer;
 mod recordings;
+mod simulations;
 mod slips;
 
 use psic::bytes;

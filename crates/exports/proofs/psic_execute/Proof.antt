@@ -1,8 +1,8 @@
 -- `exports::psic_execute` meets its contract: bytes that encode no state and numbers that name no command are refused, and past both
 -- tests the command runs on the state that the bytes encode. Assumes nothing.
-use borrow.Author.Tests.{not-true, not-false}
-use mathlib.Core.Path.{_≡_, refl, sym, _∙_}
+use mathlib.Core.Path.{_≡_, refl}
 use mathlib.Core.Bool.{true}
+use Rattle.lists.proofs.Bools.{failing, passing}
 use Rattle.layout.specs.Bytes.{isState}
 use Rattle.exports.proofs.Calls.{bad-number, bad-bytes, execute-went}
 use borrow.Author.Needs.{needs}
@@ -11,7 +11,7 @@ use Rattle.exports.proofs.psic_execute.Tie as tie
 
 -- past the test, the bytes encode a state
 readable : (c : tie.Else1) → isState (c .before .before .before .before .args .state .now) ≡ true
-readable c = let is = c .before .is-state in sym (is .ensures) ∙ not-false (is .result) (c .if1 .left)
+readable c = passing (c .before .is-state .ensures) (c .if1 .left)
 
 is-state-requires : tie.Need-is-state-requires
 is-state-requires c κs = search needs
@@ -22,8 +22,7 @@ same-length c = search needs
 returns : tie.Need-returns
 returns c =
     let a = c .before .before .before .before .args in
-    let is = c .before .is-state in
-    bad-bytes (a .number) (a .at) (a .priority) (a .state .now) (sym (is .ensures) ∙ not-true (is .result) (c .if1 .taken))
+    bad-bytes (a .number) (a .at) (a .priority) (a .state .now) (failing (c .before .is-state .ensures) (c .if1 .taken))
 
 command-requires : tie.Need-command-requires
 command-requires c κs = search needs
@@ -59,11 +58,13 @@ same-length-3 c = search needs
 
 returns-3 : tie.Need-returns-3
 returns-3 c =
-    let called = c .before .before .before .before .before .before .before .before .before .before .before .before .before .before in
+    let stepped = c .before .before .before in
+    let known = stepped .before .before .before .before .before .before .before .before .before in
+    let called = known .before .before in
     let tested = called .before in
     let a = tested .before .before .before .before .args in
     execute-went (a .number) (a .at) (a .priority) (a .state .now) (called .command .result) (readable tested) (called .command .ensures)
-    (c .before .before .before .before .before .before .before .before .before .before .before .before .c .given .1) (c .before .before .before .step .ensures) (c .packed .ensures)
+    (known .c .given .1) (stepped .step .ensures) (c .packed .ensures)
 
 pub psic-execute-spec : {M : Type 1} → statement M
 psic-execute-spec =

@@ -4,57 +4,46 @@ use Prim.Native.Nat.{_-_}
 use lib.ListN.{length}
 use borrow.Author.Needs.{needs}
 use native.Mathlib.Omega.{arith}
-use mathlib.Core.Path.{_≡_, refl, sym, _∙_}
-use mathlib.Core.List.{[]}
+use mathlib.Core.Path.{_≡_, refl, sym, ap, _∙_}
 use mathlib.Core.Bool.{true}
 use mathlib.Core.Logic.{⊎-elim}
-use borrow.Author.Tests.{not-true, not-false}
-use Rattle.model.specs.declared.Decoded.the-variants.{Unknown}
-use Rattle.layout.specs.Bytes.{isState, stateFrom}
+use Rattle.lists.proofs.Bools.{failing, passing}
+use Rattle.layout.specs.Bytes.{isState, stateFrom, oneCommand}
+use Rattle.layout.proofs.Answers.{readCommand, controller, same-bytes}
+use Rattle.layout.proofs.Fives.{fives-read}
+use Rattle.layout.proofs.Lists.{not-whole, no-room, RunTo, run-none, run-more, run-end, run-stop}
 use Rattle.steps.specs.Going.{Going}
-use Rattle.steps.proofs.Gone.{state-size}
-use Rattle.exports.proofs.Commands.{command-read, commands-there, commands-end}
-use Rattle.exports.proofs.Buffers.{no-state, not-whole, no-room}
-use Rattle.exports.proofs.Calls.{run-refused}
-use Rattle.exports.proofs.Running.{left, RunTo, run-none, more-left, run-went, run-all}
+use Rattle.layout.proofs.RoundTrip.{state-size}
+use Rattle.exports.proofs.Calls.{run-unread, run-no-room, run-ran}
 use Rattle.exports.proofs.psic_run.Statement.{statement}
 use Rattle.exports.proofs.psic_run.Tie as tie
 
 abbrev Inv-loop : tie.InvT-loop
-Inv-loop state₀ list answers₀ keys₀ ranks₀ sound i₀ state answers keys ranks i = RunTo list answers₀ (stateFrom state₀) answers (stateFrom state) i × Going sound state keys ranks
+Inv-loop state₀ list answers₀ keys₀ ranks₀ sound i₀ state answers keys ranks i =
+    RunTo readCommand controller list answers₀ (stateFrom state₀) answers (stateFrom state) i × Going sound state keys ranks
 
 abbrev μ-loop : tie.MeasureT-loop
 μ-loop state₀ list answers₀ keys₀ ranks₀ sound i₀ state answers keys ranks i = length list - i
 
--- past the tests, the bytes encode a state
-readable : (c : tie.Else3 Inv-loop μ-loop) → isState (c .before .before .before .before .before .before .before .before .args .state .now) ≡ true
-readable c = let is = c .before .is-state in sym (is .ensures) ∙ not-false (is .result) (c .if3 .left)
+-- past the tests, and what was given
+abbrev tested : tie.At-loop Inv-loop μ-loop → tie.Else3 Inv-loop μ-loop
+tested c = c .before .before .before .before .before
 
--- past the loop, no command is left: the list has ended, or the next bytes name none
-none-left :
-    (c : tie.Left-loop Inv-loop μ-loop) → left (c .before .before .before .before .before .before .before .before .before .before .before .before .before .before .args .list .now) (c .before .loop .i) ≡ []
-none-left c =
-    let a = c .before .before .before .before .before .before .before .before .before .before .before .before .before .before .args in
-    let l = c .before .loop in
-    let whole = more-left (a .list .now) (a .answers .now) (stateFrom (a .state .now)) (l .answers) (stateFrom (l .state)) (l .i) (l .inv .0) in
-    ⊎-elim (λ w. commands-end (a .list .now) (l .i) (w .left))
-    (λ w.
-    let read = command-read (a .list .now) (l .i) (w .2 .result) (w .3 .result) (w .4 .result)
-    (w .2 .ensures) (w .3 .ensures) (w .4 .ensures) in
-    commands-there (a .list .now) (l .i) Unknown (whole (w .0 .taken)) (read ∙ w .6 .given .1))
-    (c .loop-test .came)
+abbrev start : tie.Else3 Inv-loop μ-loop → tie.Start Inv-loop μ-loop
+start c = c .before .before .before .before .before .before .before .before
+
+readable : (c : tie.Else3 Inv-loop μ-loop) → isState ((start c) .args .state .now) ≡ true
+readable c = passing (c .before .is-state .ensures) (c .if3 .left)
 
 returns : tie.Need-returns Inv-loop μ-loop
 returns c =
     let a = c .before .before .before .before .args in
-    run-refused (a .state .now) (a .list .now) (a .answers .now)
-    (not-whole (a .state .now) (a .list .now) (a .answers .now) (omega arith))
+    run-no-room (a .state .now) (a .list .now) (a .answers .now) (not-whole (a .list .now) (a .answers .now) (omega arith))
 
 returns-2 : tie.Need-returns-2 Inv-loop μ-loop
 returns-2 c =
     let a = c .before .before .before .before .before .args in
-    run-refused (a .state .now) (a .list .now) (a .answers .now)
-    (no-room (a .state .now) (a .list .now) (a .answers .now) (omega arith))
+    run-no-room (a .state .now) (a .list .now) (a .answers .now) (no-room (a .list .now) (a .answers .now) (omega arith))
 
 is-state-requires : tie.Need-is-state-requires Inv-loop μ-loop
 is-state-requires c κs = search needs
@@ -65,17 +54,20 @@ same-length c = omega arith
 returns-3 : tie.Need-returns-3 Inv-loop μ-loop
 returns-3 c =
     let a = c .before .before .before .before .before .before .before .before .args in
-    let is = c .before .is-state in
-    run-refused (a .state .now) (a .list .now) (a .answers .now)
-    (no-state (a .state .now) (a .list .now) (a .answers .now) (sym (is .ensures) ∙ not-true (is .result) (c .if3 .taken)))
+    run-unread (a .state .now) (a .list .now) (a .answers .now) (failing (c .before .is-state .ensures) (c .if3 .taken))
 
 begin-requires : tie.Need-begin-requires Inv-loop μ-loop
 begin-requires c κs = (readable (c .before .before .before), refl, refl)
 
 loop-holds : tie.Need-loop-holds Inv-loop μ-loop
 loop-holds c =
-    let a = c .before .before .before .before .before .before .before .before .before .before .before .before .args in
-    (run-none (a .list .now) (a .answers .now) (stateFrom (a .state .now)) (c .before .before .before .before .before .before .before .before .if1 .left) (c .before .before .before .before .before .before .before .if2 .left), c .begin .ensures)
+    let test = c .before .before .before .before in
+    let fit = test .before .before .before in
+    let a = (start test) .args in (
+      run-none readCommand controller (a .list .now) (a .answers .now) (stateFrom (a .state .now)) (fit .before .if1 .left)
+          (fit .if2 .left),
+      c .begin .ensures,
+    )
 
 shared-slice-read-command : tie.Need-shared-slice-read-command Inv-loop μ-loop
 shared-slice-read-command c = omega arith
@@ -112,41 +104,51 @@ put-answer-requires c κs = search needs
 
 add-i : tie.Need-add-i Inv-loop μ-loop
 add-i c =
-    let turn = c .before .before .before .before .before .before .before .before .before .before .before .before .before .before .before .before .before in
-    let at = turn .before in
-    omega (arith, turn .loop-test .taken, at .loop .inv .0 .whole, at .loop .inv .0 .place, at .before .before .before .before .before .before .before .before .before .before .before .before .before .good)
+    let stepped = c .before .before .before .before .before .before in
+    let turn = stepped .before .before .before .before .before .before .before .before .before .before .before in
+    let so-far = turn .before .loop .inv .0 in
+    omega (arith, turn .loop-test .taken, so-far .whole, so-far .place, (start (tested (turn .before))) .good)
 
 loop-less : tie.Need-loop-less Inv-loop μ-loop
 loop-less c = omega arith
 
 loop-again : tie.Need-loop-again Inv-loop μ-loop
 loop-again c =
-    let put = c .before .before .put-answer in
-    let done = c .before .before .before .before .before .before in
-    let called = c .before .before .before .before .before .before .before .before .before .before .before .before .before in
-    let turn = c .before .before .before .before .before .before .before .before .before .before .before .before .before .before .before .before .before in
-    let a = turn .before .before .before .before .before .before .before .before .before .before .before .before .before .before .args in
+    let put = c .before .before in
+    let stepped = put .before .before .before .before in
+    let known = stepped .before .before .before .before .before in
+    let called = known .before .before in
+    let turn = called .before .before .before .before in
+    let list = (start (tested (turn .before))) .args .list .now in
     let l = turn .before .loop in
-    let priority = called .before .word-at2 in
-    let target = called .before .before .word-at in
-    let read = command-read (a .list .now) (l .i) (target .result) (priority .result) (called .command .result)
-    (target .ensures) (priority .ensures) (called .command .ensures) in (
-      run-went (l .state) _ (l .inv .0) (turn .loop-test .taken) (read ∙ c .before .before .before .before .before .before .before .before .before .before .before .read .given .1) (done .step .ensures) (put .ensures),
-      done .step .ensures .going,
+    let went = stepped .step .ensures in
+    let read = fives-read readCommand list (l .i) (called .before .before .word-at .ensures) (called .before .word-at2 .ensures)
+    (ap oneCommand (sym (called .command .ensures) ∙ known .read .given .1)) in (
+      run-more (l .inv .0) (turn .loop-test .taken) read (went .state-is) (put .put-answer .ensures) (same-bytes (went .says)),
+      went .going,
     )
 
 same-length-2 : tie.Need-same-length-2 Inv-loop μ-loop
-same-length-2 c = c .before .loop .inv .1 .size ∙ sym (state-size (c .before .before .before .before .before .before .before .before .before .before .before .before .before .before .args .state .now) (readable (c .before .before .before .before .before .before)))
+same-length-2 c =
+    let test = tested (c .before) in
+    c .before .loop .inv .1 .size ∙ sym (state-size ((start test) .args .state .now) (readable test))
 
 same-length-3 : tie.Need-same-length-3 Inv-loop μ-loop
-same-length-3 c = omega arith
+same-length-3 c = c .before .loop .inv .0 .taken .size
 
+-- past the loop the list has ended, or the next bytes name no command
 returns-4 : tie.Need-returns-4 Inv-loop μ-loop
 returns-4 c =
-    let a = c .before .before .before .before .before .before .before .before .before .before .before .before .before .before .args in
+    let test = tested (c .before) in
+    let a = (start test) .args in
     let l = c .before .loop in
-    run-all (a .state .now) (a .list .now) (a .answers .now) (stateFrom (a .state .now)) (l .answers) (l .state) (stateFrom (l .state)) (l .i)
-    (readable (c .before .before .before .before .before .before)) refl (l .inv .0) (none-left c) (l .inv .1 .whole)
+    run-ran (a .state .now) (a .list .now) (a .answers .now) (readable test)
+    (⊎-elim (λ w. run-end (l .inv .0) (w .left))
+    (λ w.
+    run-stop (l .inv .0) (w .0 .taken)
+    (fives-read readCommand (a .list .now) (l .i) (w .2 .ensures) (w .3 .ensures) (ap oneCommand (sym (w .4 .ensures) ∙ w .6 .given .1))))
+    (c .loop-test .came))
+    (l .inv .1 .whole)
 
 pub psic-run-spec : {M : Type 1} → statement M
 psic-run-spec =

@@ -3,10 +3,10 @@ use mathlib.Core.Path.{_≡_, sym, _∙_}
 use native.Mathlib.Omega.{arith}
 use Rattle.layout.specs.Bytes.{stateBytes, stateFrom}
 use Rattle.layout.specs.Statements.{Sized}
-use Rattle.layout.proofs.RoundTrip.{bytes-written-back}
+use Rattle.layout.proofs.RoundTrip.{state-size, bytes-written-back}
 use Rattle.layout.proofs.Octets.{bytes-fit}
 use Rattle.well_formed.proofs.Test.{wellFormed-out}
-use Rattle.steps.proofs.Gone.{state-size, begun-sound, begun-unsound}
+use Rattle.steps.proofs.Gone.{begun-sound, begun-unsound}
 use Rattle.steps.proofs.begin.Statement.{statement}
 use Rattle.steps.proofs.begin.Tie as tie
 

@@ -3,9 +3,10 @@
 //! usage: bench shares N M COUNT SEED               prints how often each kind of command comes in the workload, accepted and refused
 //!        bench write N M COUNT RECORDED SEED FOLDER
 //!                                                  writes the workload: a list, single commands with the states they meet, a recording,
-//!                                                  one of each other kind (comments, ..) of an eighth of its commands; and a busy list
-//!        bench measure N M FOLDER SECTION..        runs sections of it: lists, busy, lengths, singles, calls, reading, replay, or a kind
-//!                                                  of recording but the plain one, which is read
+//!                                                  one of each other kind (comments, ..) of an eighth of its commands; a busy list, and
+//!                                                  a list of calls of the interrupt routines
+//!        bench measure N M FOLDER SECTION..        runs sections of it: lists, busy, lengths, singles, calls, routines, reading, replay,
+//!                                                  or a kind of recording but the plain one, which is read
 //!
 //! What is measured is what goes on inside the function `measured`, which is called once for each line that a run prints: the section's
 //! name, the side (the library or a Rust model), how many units there were, the nanoseconds that they took, and digests of the answers and
@@ -19,7 +20,9 @@ use psic::recording::MAX_COMMANDS;
 use psic::{raw, ANSWER_SIZE, COMMAND_SIZE, STATE_SIZE};
 use psic_reference::recording;
 use psic_reference::records::{Answer, Command};
+use psic_reference::routines::Simulation;
 use psic_trials::library::{answer_bytes, bytes_of, command_of, controller_of, encoded, numbers};
+use psic_trials::simulations::{list_bytes, Memory};
 use psic_trials::workload::{self, Mostly, KINDS};
 use psic_trials::{fast, peer};
 
@@ -58,6 +61,8 @@ fn run(words: &[String]) {
             write(folder, "list", &list_of(listed));
             let busy = workload::busy_commands(number(seed), n, m, count);
             write(folder, "busy list", &list_of(&busy));
+            let calls = workload::routine_calls(number(seed), n, m, count);
+            write(folder, "routine list", &list_bytes(&calls));
             for (kind, singles) in workload::singles(n, m, listed, SINGLES).iter().enumerate() {
                 let with_state = |(state, command): &(_, Command)| {
                     [&bytes_of(state)[..], &encoded(*command)[..]].concat()
@@ -161,6 +166,7 @@ impl Workload<'_> {
             "lengths" => self.lengths(),
             "singles" => (0..KINDS.len()).for_each(|kind| self.single(kind)),
             "calls" => self.calls(),
+            "routines" => self.routines(),
             "reading" => self.reading("reading", "recording"),
             "replay" => self.replay(),
             kind if other_kinds().any(|(name, _)| name == kind) => {
@@ -223,6 +229,40 @@ impl Workload<'_> {
                 }
             },
             |(_, answers)| (answers.clone(), Vec::new()),
+        );
+    }
+
+    /// A whole list of calls of the routines at once, with its table.
+    fn routines(&self) {
+        let name = "routine list";
+        let list = self.read(name);
+        let count = list.len() / COMMAND_SIZE;
+        let answers = vec![0; ANSWER_SIZE * count];
+        let fresh = Simulation::fresh(self.n, self.m);
+        let bytes = |memory: Memory| {
+            let words = [memory.active, memory.holder, memory.table].concat();
+            let words = words.into_iter().flat_map(u16::to_le_bytes);
+            memory.state.into_iter().chain(words).collect()
+        };
+        measure(
+            name,
+            "library",
+            count,
+            (Memory::of(&fresh), answers.clone()),
+            |(memory, answers)| {
+                memory.simulate(&list, answers);
+            },
+            |(memory, answers)| (answers.clone(), bytes(memory.clone())),
+        );
+        measure(
+            name,
+            "peer",
+            count,
+            (peer::routines::Routines::load(&fresh), answers),
+            |(state, answers)| {
+                state.run(&list, answers);
+            },
+            |(state, answers)| (answers.clone(), bytes(Memory::of(&state.read()))),
         );
     }
 

@@ -2,12 +2,14 @@
 //!
 //! usage: `soak [ROUNDS [LENGTH [SEED]]]` (default: 12000 rounds of 1000 commands, and a seed from the clock)
 //!        `soak texts [COUNT [SEED]]` (default: 1000000 texts)
+//!        `soak routines [ROUNDS [LENGTH [SEED]]]` (default: 4000 rounds of 1000 calls)
 //!
 //! Each text is read, one in four also replayed, and the totals are printed by number.
 //!
 //! Each round of commands runs, from one printed seed, makings of any sizes, a history by single commands and as a list, one command of
 //! each kind and all of them as a list on broken states made from its end, lists of several lengths from its end and from such states, and
-//! lent records. The first difference ends a run with status 1.
+//! lent records. Each round of calls does the same with a run of the interrupt routines and broken simulations. The first difference ends
+//! a run with status 1.
 
 use std::time::{SystemTime, UNIX_EPOCH};
 
@@ -16,18 +18,23 @@ use psic_reference::damage;
 use psic_reference::generate::{self, Mix};
 use psic_reference::model::Reference;
 use psic_reference::random::Random;
+use psic_reference::routines;
 use psic_trials::library::Library;
 use psic_trials::recordings::{self, Trial};
+use psic_trials::simulations;
 
 fn main() {
     let mut words = std::env::args().skip(1).peekable();
     let texts = words.next_if_eq("texts").is_some();
+    let routines = words.next_if_eq("routines").is_some();
     let numbers = words.map(|word| {
         word.parse::<u64>()
             .unwrap_or_else(|_| panic!("{word} is no number"))
     });
     if texts {
         read_texts(numbers);
+    } else if routines {
+        run_routines(numbers);
     } else {
         run_commands(numbers);
     }
@@ -88,6 +95,29 @@ fn run_commands(mut words: impl Iterator<Item = u64>) {
         "{} commands and {broken} broken states, 0 differences",
         rounds * length as u64
     );
+}
+
+fn run_routines(mut words: impl Iterator<Item = u64>) {
+    let rounds = words.next().unwrap_or(4_000);
+    let length = words.next().unwrap_or(1_000) as usize;
+    let seed = words.next().unwrap_or_else(clock);
+    println!("seed {seed}, {rounds} rounds of {length} calls");
+    let mut seeds = Random::new(seed);
+    for round in 1..=rounds {
+        let comparison = routines::compare::Comparison {
+            left: &routines::compare::Reference,
+            right: &simulations::Library,
+            seed: seeds.bits(),
+        };
+        if let Some(difference) = comparison.round(length) {
+            println!("round {round}: {difference}");
+            std::process::exit(1);
+        }
+        if round % 500 == 0 {
+            println!("{} calls, no difference", round * length as u64);
+        }
+    }
+    println!("{} calls, 0 differences", rounds * length as u64);
 }
 
 fn clock() -> u64 {

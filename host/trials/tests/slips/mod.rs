@@ -2,6 +2,8 @@
 //! passes it on to the library and, where a test asks for it, alters what the library answered. A comparison that doesn't look at the
 //! library's own answers finds no slip.
 
+pub mod routines;
+
 use std::cell::Cell;
 
 use psic::raw::{Claimed, Found, Ranged, Report};
@@ -46,6 +48,8 @@ pub enum Slip {
     ReplayState,
     ReplayStateOfRefusedSizes,
     ReplayBehindAnswers,
+    /// Of the calls on a simulation of the routines.
+    Routines(routines::Slip),
 }
 
 impl Slip {

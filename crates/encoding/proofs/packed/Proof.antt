@@ -1,8 +1,8 @@
--- `exports::packed` meets its contract: 8, 16 and 16 binary digits make 40, so nothing wraps. Assumes nothing.
+-- `encoding::packed` meets its contract: 8, 16 and 16 binary digits make 40, so nothing wraps. Assumes nothing.
 use borrow.Author.Needs.{needs}
 use native.Mathlib.Omega.{arith}
-use Rattle.exports.proofs.packed.Statement.{statement}
-use Rattle.exports.proofs.packed.Tie as tie
+use Rattle.encoding.proofs.packed.Statement.{statement}
+use Rattle.encoding.proofs.packed.Tie as tie
 
 cast-result : tie.Need-cast-result
 cast-result c = search needs

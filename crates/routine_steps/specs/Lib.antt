@@ -1,0 +1,2 @@
+-- Helpers of this crate's contracts. Nothing here needs to be believed.
+pub mod Simulated

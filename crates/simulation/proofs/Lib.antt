@@ -1,0 +1,3 @@
+-- Laws that the proofs cite.
+--   Answered    an answer by its parts, from what a step leaves in memory
+mod Answered
