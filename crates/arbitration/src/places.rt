@@ -9,6 +9,9 @@ use model::Core;
 use model::SOURCES;
 use model::Source;
 
+// A priority counts for two rows of cores: those whose box is filled, then those whose box is empty.
+const KEY_STEP: u32 = 2 * CORES as u32;
+
 // Above every id that there is room for.
 const RANK_STEP: u32 = 2048;
 
@@ -18,9 +21,9 @@ pub fn key_at(c: Core, k: usize) -> u32
     ensures { λ r. ⌜ r ≡ keyAt k c ⌝ }
 {
     if !c.message.filled {
-        return 64 * c.configured as u32 + 32 + k as u32;
+        return KEY_STEP * c.configured as u32 + CORES as u32 + k as u32;
     }
-    64 * c.message.priority as u32 + k as u32
+    KEY_STEP * c.message.priority as u32 + k as u32
 }
 
 // The number of source i + 1, whose record is r; 0 for no candidate.
@@ -44,7 +47,7 @@ pub fn core_of(key: u32) -> usize
 pub fn current_of(key: u32) -> u32
     ensures { λ p. ⌜ p ≡ currentOf key ⌝ }
 {
-    key / (2 * CORES as u32)
+    key / KEY_STEP
 }
 
 // The index of the source that a number stands for, and its request's priority.

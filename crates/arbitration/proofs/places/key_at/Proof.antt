@@ -6,14 +6,15 @@ use native.Mathlib.Omega.{arith}
 use borrow.Author.Needs.{needs}
 use borrow.Author.Tests.{not-true, not-false}
 use Rattle.model.specs.declared.Core.{Core}
+use Rattle.model.specs.Records.{maxCores}
 use Rattle.arbitration.specs.Places.{keyAt}
 use Rattle.arbitration.proofs.places.key_at.Statement.{statement}
 use Rattle.arbitration.proofs.places.key_at.Tie as tie
 
-at-empty : (c : Core) (k : ℕ) → c .message .filled ≡ false → 64 * c .configured + 32 + k ≡ keyAt k c
+at-empty : (c : Core) (k : ℕ) → c .message .filled ≡ false → 2 * maxCores * c .configured + maxCores + k ≡ keyAt k c
 at-empty c k f = rw f (omega arith)
 
-at-filled : (c : Core) (k : ℕ) → c .message .filled ≡ true → 64 * c .message .priority + k ≡ keyAt k c
+at-filled : (c : Core) (k : ℕ) → c .message .filled ≡ true → 2 * maxCores * c .message .priority + k ≡ keyAt k c
 at-filled c k f = rw f (omega arith)
 
 cast-result : tie.Need-cast-result
@@ -22,11 +23,14 @@ cast-result c = search needs
 mul-result : tie.Need-mul-result
 mul-result c = search needs
 
+cast-result-2 : tie.Need-cast-result-2
+cast-result-2 c = search needs
+
 add-result : tie.Need-add-result
 add-result c = search needs
 
-cast-result-2 : tie.Need-cast-result-2
-cast-result-2 c = search needs
+cast-result-3 : tie.Need-cast-result-3
+cast-result-3 c = search needs
 
 add-result-2 : tie.Need-add-result-2
 add-result-2 c = search needs
@@ -34,14 +38,14 @@ add-result-2 c = search needs
 returns : tie.Need-returns
 returns c = at-empty (c .before .before .before .args .c) (c .before .before .before .args .k) (not-true _ (c .before .if1 .taken))
 
-cast-result-3 : tie.Need-cast-result-3
-cast-result-3 c = search needs
+cast-result-4 : tie.Need-cast-result-4
+cast-result-4 c = search needs
 
 mul-result-2 : tie.Need-mul-result-2
 mul-result-2 c = search needs
 
-cast-result-4 : tie.Need-cast-result-4
-cast-result-4 c = search needs
+cast-result-5 : tie.Need-cast-result-5
+cast-result-5 c = search needs
 
 add-result-3 : tie.Need-add-result-3
 add-result-3 c = search needs
@@ -55,12 +59,13 @@ key-at-spec =
     (tie.spec
     cast-result
     mul-result
-    add-result
     cast-result-2
+    add-result
+    cast-result-3
     add-result-2
     returns
-    cast-result-3
-    mul-result-2
     cast-result-4
+    mul-result-2
+    cast-result-5
     add-result-3
     returns-2)
