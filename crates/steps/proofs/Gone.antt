@@ -19,7 +19,7 @@ use Rattle.layout.specs.Bytes.{stateBytes, isState, stateFrom}
 use Rattle.layout.specs.Statements.{Sized}
 use Rattle.layout.proofs.RoundTrip.{state-size}
 use Rattle.in_place.specs.declared.Outcome.{Outcome}
-use Rattle.in_place.specs.Held.{Numbered}
+use Rattle.in_place.specs.Held.{Numbered, Held}
 use Rattle.in_place.specs.Steps.{Says, Ready, Executed}
 use Rattle.in_place.proofs.Stored.{held-back, held-here, held-length}
 use Rattle.steps.specs.Going.{Going, Went}
@@ -33,7 +33,8 @@ module _ {b keys ranks : List ℕ} (encodes : isState b ≡ true) (whole : b ≡
 
   pub begun-sound : Sized (stateFrom b) → Numbered (stateFrom b) keys ranks → Going sound b keys ranks
   begun-sound sized numbered =
-      record { size = state-size b encodes; whole = whole; tested = tested; held = λ f. record { bytes-are = whole; sized = sized; numbered = numbered } }
+      let held : Held (stateFrom b) b keys ranks = record { bytes-are = whole; sized = sized; numbered = numbered } in
+      record { size = state-size b encodes; whole = whole; tested = tested; held = λ f. held }
 
 -- ---- one command more
 
@@ -52,7 +53,8 @@ module _ {sound : Bool} {b keys ranks : List ℕ} (g : Going sound b keys ranks)
 
     -- d is the command by its parts
     pub gone-on :
-        {d : Command} {r : Outcome} {b′ keys′ ranks′ : List ℕ} → c ≡ d → Executed b d r b′ keys′ ranks′ → Went (execute s c) sound r b′ keys′ ranks′
+        {d : Command} {r : Outcome} {b′ keys′ ranks′ : List ℕ} →
+        c ≡ d → Executed b d r b′ keys′ ranks′ → Went (execute s c) sound r b′ keys′ ranks′
     gone-on {d} {r} {b′} {keys′} {ranks′} is did =
         let done : Executed b c r b′ keys′ ranks′ = subst (λ (e : Command). Executed b e r b′ keys′ ranks′) (sym is) did in
         let kept : WellFormed ((execute s c) .state) = wellFormed-kept s c (ready .sound) in

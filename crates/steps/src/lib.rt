@@ -35,7 +35,8 @@ pub fn step(
     c: Command,
 ) -> Outcome
     requires { ⌜ Going sound (now state) (now keys) (now ranks) ⌝ }
-    ensures { λ r. ⌜ Went (execute (stateFrom (now (state .entry))) c) sound r (now (state .exit)) (now (keys .exit)) (now (ranks .exit)) ⌝ }
+    ensures { λ r. ⌜ Went (execute (stateFrom (now (state .entry))) c) sound r
+        (now (state .exit)) (now (keys .exit)) (now (ranks .exit)) ⌝ }
 {
     if !sound {
         return in_place::answered(MALFORMED, SourceId(0), 0);

@@ -12,7 +12,9 @@ use Rattle.steps.proofs.begin.Tie as tie
 
 -- the bytes are those of the state that they encode
 whole : (c : tie.After-well-formed) → let b = c .before .before .args .state .now in b ≡ stateBytes (stateFrom b)
-whole c = sym (bytes-written-back (c .before .before .args .state .now) (λ i h. omega (arith, c .before .shared-slice-known .given i)) (c .before .before .pre .0))
+whole c =
+    let start = c .before .before in
+    sym (bytes-written-back (start .args .state .now) (λ i h. omega (arith, c .before .shared-slice-known .given i)) (start .pre .0))
 
 sized : (c : tie.After-well-formed) → Sized (stateFrom (c .before .before .args .state .now))
 sized c = bytes-fit (c .before .before .args .state .now) (λ i h. omega (arith, c .before .shared-slice-known .given i)) .0
@@ -22,8 +24,10 @@ well-formed-requires c κs = state-size (c .before .args .state .now) (c .before
 
 number-all-requires : tie.Need-number-all-requires
 number-all-requires c κs =
-    let given = c .before .before .before .before .before in
-    let s = wellFormed-out (stateFrom (given .args .state .now)) (sym (c .before .before .before .well-formed .ensures) ∙ c .before .before .if1 .taken) .consistent in
+    let sound = c .before .before in
+    let tested = sound .before in
+    let given = tested .before .before in
+    let s = wellFormed-out (stateFrom (given .args .state .now)) (sym (tested .well-formed .ensures) ∙ sound .if1 .taken) .consistent in
     (state-size (given .args .state .now) (given .pre .0), s .n-le, s .m-le, given .pre .1, given .pre .2)
 
 returns : tie.Need-returns
