@@ -51,7 +51,8 @@ soiled-retract u k =
 -- a box that is neither filled nor dirty has no mark to get
 unmarked : (c : Core) → c .message .filled ≡ false → c .message .dirty ≡ false → soiled c ≡ c
 unmarked c empty clean =
-    ap (λ (t : _). coreWith (c .configured) (boxWith (c .message .filled) t (c .message .source) (c .message .priority))) (empty ∙ sym clean)
+    let box = c .message in
+    ap (λ (t : _). coreWith (c .configured) (boxWith (box .filled) t (box .source) (box .priority))) (empty ∙ sym clean)
 
 soiled-none :
     (u : Controller) → AllClean u → ((k : ℕ) → k < length (u .cores) → (coreAt u k) .message .filled ≡ false) → soiledAll u ≡ u

@@ -12,7 +12,9 @@ use Rattle.core_steps.specs.Phases.{soiledAll, Emptied, Delivered, Settl
 
 module _ {b b₁ keys₁ ranks₁ : List ℕ} {x : ℕ} (e : Emptied b x b₁ keys₁ ranks₁) where
   -- 2m cycles less those of the retractions are enough for the deliveries
-  pub settled-by : {y : ℕ} {b₂ keys₂ ranks₂ : List ℕ} → Delivered b₁ y b₂ keys₂ ranks₂ → Settled (soiledAll (stateFrom b)) (x + y) b₂ keys₂ ranks₂
+  pub settled-by :
+      {y : ℕ} {b₂ keys₂ ranks₂ : List ℕ} →
+      Delivered b₁ y b₂ keys₂ ranks₂ → Settled (soiledAll (stateFrom b)) (x + y) b₂ keys₂ ranks₂
   settled-by {y} {b₂} {keys₂} {ranks₂} d =
       let s : Controller = soiledAll (stateFrom b) in
       let f : ℕ = 2 * s .m - x in

@@ -18,34 +18,45 @@ Inv-loop state₀ keys₀ ranks₀ n m t₀ state keys ranks t = DeliveredTo (st
 abbrev μ-loop : tie.MeasureT-loop
 μ-loop state₀ keys₀ ranks₀ n m t₀ state keys ranks t = m - t
 
--- what the two searches have found
-abbrev start : tie.After-current-of Inv-loop μ-loop → tie.Start Inv-loop μ-loop
-start c = c .before .before .before .before .before .before .before .before .before
+-- points on the way: the turn of the two searches and their call, the two results, a request that is to be delivered
+abbrev turn : tie.After-current-of Inv-loop μ-loop → tie.In-loop Inv-loop μ-loop
+turn c = c .before .before .before .before .before .before
 
+abbrev start : tie.After-current-of Inv-loop μ-loop → tie.Start Inv-loop μ-loop
+start c = turn c .before .before .before
+
+abbrev ranked : tie.After-current-of Inv-loop μ-loop → tie.After-greatest Inv-loop μ-loop
+ranked c = c .before .before .before .before
+
+abbrev keyed : tie.After-current-of Inv-loop μ-loop → tie.After-lowest Inv-loop μ-loop
+keyed c = c .before .before
+
+abbrev found : tie.After-core-at Inv-loop μ-loop → tie.Else1 Inv-loop μ-loop
+found c = c .before .before .before .before .before .before
+
+-- what the two searches have found
 inv :
     (c : tie.After-current-of Inv-loop μ-loop) →
-    let loop = c .before .before .before .before .before .before .before .loop in
+    let loop = turn c .before .loop in
     DeliveredTo (stateFrom (start c .args .state .now)) (loop .state) (loop .keys) (loop .ranks) (loop .t)
-inv c = c .before .before .before .before .before .before .before .loop .inv
+inv c = turn c .before .loop .inv
 
 top :
     (c : tie.After-current-of Inv-loop μ-loop) →
-    let loop = c .before .before .before .before .before .before .before .loop in
-    GreatestOf (loop .ranks) ((stateFrom (start c .args .state .now)) .n) (c .before .before .before .before .greatest .result)
+    GreatestOf (turn c .before .loop .ranks) ((stateFrom (start c .args .state .now)) .n) (ranked c .greatest .result)
 top c =
-    let loop = c .before .before .before .before .before .before .before .loop in
-    subst (λ (x : ℕ). GreatestOf (loop .ranks) x (c .before .before .before .before .greatest .result)) (start c .pre .1) (c .before .before .before .before .greatest .ensures)
+    let search = ranked c .greatest in
+    subst (λ (x : ℕ). GreatestOf (turn c .before .loop .ranks) x (search .result)) (start c .pre .1) (search .ensures)
 
 low :
     (c : tie.After-current-of Inv-loop μ-loop) →
-    let loop = c .before .before .before .before .before .before .before .loop in
-    LowestOf (loop .keys) ((stateFrom (start c .args .state .now)) .m) (c .before .before .lowest .result)
+    LowestOf (turn c .before .loop .keys) ((stateFrom (start c .args .state .now)) .m) (keyed c .lowest .result)
 low c =
-    let loop = c .before .before .before .before .before .before .before .loop in
-    subst (λ (x : ℕ). LowestOf (loop .keys) x (c .before .before .lowest .result)) (start c .pre .2) (c .before .before .lowest .ensures)
+    let search = keyed c .lowest in
+    subst (λ (x : ℕ). LowestOf (turn c .before .loop .keys) x (search .result)) (start c .pre .2) (search .ensures)
 
 above : (c : tie.Else1 Inv-loop μ-loop) →
-    currentOf (c .before .before .before .lowest .result) < priorityOf (c .before .before .before .before .before .greatest .result)
+    currentOf (keyed (c .before) .lowest .result) < priorityOf (ranked (c .before) .greatest .result)
 above c = omega (arith, c .if1 .left, c .before .current-of .ensures, c .before .before .priority-of .ensures)
 
 loop-holds : tie.Need-loop-holds Inv-loop μ-loop
@@ -82,41 +93,42 @@ source-at-requires : tie.Need-source-at-requires Inv-loop μ-loop
 source-at-requires c κs =
     let else = c .before .before .before in
     let at = else .before in
-    (held-length (inv at .held), omega (arith, c .before .before .source-of .ensures, turn-source (inv at) (top at) (low at) (above else)))
+    let inside = turn-source (inv at) (top at) (low at) (above else) in
+    (held-length (inv at .held), omega (arith, c .before .before .source-of .ensures, inside))
 
 core-at-requires : tie.Need-core-at-requires Inv-loop μ-loop
 core-at-requires c κs =
     let else = c .before .before .before .before .before in
     let at = else .before in
-    (held-length (inv at .held), omega (arith, c .before .before .before .core-of .ensures, turn-core (inv at) (top at) (low at) (above else)))
+    let inside = turn-core (inv at) (top at) (low at) (above else) in
+    (held-length (inv at .held), omega (arith, c .before .before .before .core-of .ensures, inside))
 
 -- the records read
 core-found :
     (c : tie.After-core-at Inv-loop μ-loop) →
-    let at = c .before .before .before .before .before .before .before in
-    c .core-at .result ≡ coreAt (stateFrom (at .before .before .before .before .before .before .before .loop .state)) (coreOf (at .before .before .lowest .result))
+    let at = found c .before in
+    c .core-at .result ≡ coreAt (stateFrom (turn at .before .loop .state)) (coreOf (keyed at .lowest .result))
 core-found c =
-    let else = c .before .before .before .before .before .before in
-    let at = else .before in
-    c .core-at .ensures ∙
-    ap (λ (k : ℕ). coreFrom (at .before .before .before .before .before .before .before .loop .state) (corePlace k)) (c .before .before .before .before .core-of .ensures) ∙
-    read-core (inv at .held) _ (turn-core (inv at) (top at) (low at) (above else))
+    let at = found c .before in
+    let place = c .before .before .before .before .core-of .ensures in
+    c .core-at .ensures ∙ ap (λ (k : ℕ). coreFrom (turn at .before .loop .state) (corePlace k)) place ∙
+    read-core (inv at .held) _ (turn-core (inv at) (top at) (low at) (above (found c)))
 
 source-found :
     (c : tie.After-source-at Inv-loop μ-loop) →
     let at = c .before .before .before .before .before in
-    c .source-at .result ≡ sourceAt (stateFrom (at .before .before .before .before .before .before .before .loop .state)) (sourceOf (at .before .before .before .before .greatest .result))
+    c .source-at .result ≡ sourceAt (stateFrom (turn at .before .loop .state)) (sourceOf (ranked at .greatest .result))
 source-found c =
     let else = c .before .before .before .before in
     let at = else .before in
-    c .source-at .ensures ∙
-    ap (λ (i : ℕ). sourceFrom (at .before .before .before .before .before .before .before .loop .state) (sourcePlace i)) (c .before .before .before .source-of .ensures) ∙
+    let place = c .before .before .before .source-of .ensures in
+    c .source-at .ensures ∙ ap (λ (i : ℕ). sourceFrom (turn at .before .loop .state) (sourcePlace i)) place ∙
     read-source (inv at .held) _ (turn-source (inv at) (top at) (low at) (above else))
 
 deliver-requires : tie.Need-deliver-requires Inv-loop μ-loop
 deliver-requires c κs =
     let read = c .before .before .before in
-    let else = read .before .before .before .before .before .before in
+    let else = found read in
     let at = else .before in (
       held-length (inv at .held),
       omega (arith, read .before .before .before .before .before .source-of .ensures, turn-source (inv at) (top at) (low at) (above else)),
@@ -126,31 +138,33 @@ deliver-requires c κs =
 
 add-t : tie.Need-add-t Inv-loop μ-loop
 add-t c =
-    let turn = c .before .before .before .before .before .before .before .before .before .before .before .before .before .before .before .before .before .before .before in
-    let given = turn .before .before .before .pre in
-    omega (arith, turn .loop-test .taken, given .2, given .0 .consistent .m-le)
+    let at = found (c .before .before .before .before .before .before) .before in
+    let given = start at .pre in
+    omega (arith, turn at .loop-test .taken, given .2, given .0 .consistent .m-le)
 
 loop-less : tie.Need-loop-less Inv-loop μ-loop
 loop-less c =
-    let turn = c .before .before .before .before .before .before .before .before .before .before .before .before .before .before .before .before .before .before .before in
-    omega (arith, turn .loop-test .taken)
+    let at = found (c .before .before .before .before .before .before) .before in
+    omega (arith, turn at .loop-test .taken)
 
 loop-again : tie.Need-loop-again Inv-loop μ-loop
 loop-again c =
     let done = c .before .before in
     let read = done .before .before .before .before in
-    let else = read .before .before .before .before .before .before in
+    let placed = read .before .before .before .before in
+    let else = found read in
     let at = else .before in
-    let turn = at .before .before .before .before .before .before in
     delivered-more (inv at) (top at) (low at) (above else) (core-found read) (source-found (read .before .before))
-    (rw (read .before .before .before .before .before .source-of .ensures, read .before .before .before .before .core-of .ensures) at (done .deliver .ensures))
-    (omega (arith, turn .loop-test .taken, turn .before .before .before .pre .2))
+    (rw (placed .before .source-of .ensures, placed .core-of .ensures) at (done .deliver .ensures))
+    (omega (arith, turn at .loop-test .taken, start at .pre .2))
 
 same-length : tie.Need-same-length Inv-loop μ-loop
 same-length c = held-length (c .before .loop .inv .held) ∙ sym (held-length (c .before .before .before .pre .0 .held))
 
 returns : tie.Need-returns Inv-loop μ-loop
-returns c = delivered-all (c .before .loop .inv) (c .before .before .before .pre .0) (omega (arith, c .loop-test .left, c .before .before .before .pre .2))
+returns c =
+    let given = c .before .before .before .pre in
+    delivered-all (c .before .loop .inv) (given .0) (omega (arith, c .loop-test .left, given .2))
 
 same-length-2 : tie.Need-same-length-2 Inv-loop μ-loop
 same-length-2 c = held-length (inv (c .before) .held) ∙ sym (held-length (start (c .before) .pre .0 .held))

@@ -1,10 +1,13 @@
 -- `core_steps::on_core` meets its contract: the checks in their order, then the record stored, and settled. Assumes nothing.
+use Prim.Native.Nat.{_<_}
+use lib.ListN.{length}
 use mathlib.Core.Path.{_≡_, sym, _∙_}
 use mathlib.Core.Bool.{true}
 use native.Mathlib.Omega.{arith}
 use borrow.Author.Tests.{not-true, not-false}
+use Rattle.model.specs.Records.{maxCores}
 use Rattle.model.specs.Commands.{namesCore}
-use Rattle.layout.specs.Bytes.{stateFrom}
+use Rattle.layout.specs.Bytes.{stateSize, stateFrom}
 use Rattle.in_place.proofs.Numbering.{sizes-read}
 use Rattle.in_place.proofs.Stored.{held-length}
 use Rattle.core_steps.proofs.Cores.{Judged, named-by, bad-core, core-in, judged, refused-later, soiled-by, sizes-stay, set-leaves, claim-leaves}
@@ -12,21 +15,40 @@ use borrow.Author.Needs.{needs}
 use Rattle.core_steps.proofs.on_core.Statement.{statement}
 use Rattle.core_steps.proofs.on_core.Tie as tie
 
+-- points on the way: the call, its core known to be one of the state's, the command found to be accepted
 abbrev start : tie.Else1 → tie.Start
 start c = c .before .before .before .before .before
 
+abbrev known : tie.After-core-refusal → tie.Else1
+known c = c .before .before .before .before .before .before
+
+abbrev accepted-set : tie.After-put-core → tie.Else2
+accepted-set c = c .before .before .before .before .before .before .before
+
+abbrev accepted-claim : tie.After-put-core2 → tie.Else2
+accepted-claim c = c .before .before .before .before .before .before
+
 -- the core is one of the state's
 named : (c : tie.Else1) → namesCore (stateFrom (start c .args .state .now)) (start c .args .core) ≡ true
-named c = named-by (start c .pre) (start c .args .core) (c .before .before .word-at .ensures) (c .before .names-core .ensures) (not-false _ (c .if1 .left))
+named c =
+    let asked = c .before in
+    let core = start c .args .core in
+    named-by (start c .pre) core (asked .before .word-at .ensures) (asked .names-core .ensures) (not-false _ (c .if1 .left))
+
+-- its record stands within the state
+inside : (c : tie.Else1) → (length (start c .args .state .now) ≡ stateSize) × (start c .args .core .0 < maxCores)
+inside c = (held-length (start c .pre .held), core-in (start c .pre) (start c .args .core) (named c))
 
 -- what the checks have found of its record
 found :
     (c : tie.After-core-refusal) →
-    let given = start (c .before .before .before .before .before .before) .args in
+    let given = start (known c) .args in
     Judged (stateFrom (given .state .now)) (given .core) (given .a) (c .before .core-at .result) (c .core-refusal .result)
 found c =
-    let at = c .before .before .before .before .before .before in
-    judged (start at .pre) (start at .args .core) (named at) (start at .args .a) (c .before .before .before .before .word-at2 .ensures) (c .before .core-at .ensures)
+    let at = known c in
+    let given = start at .args in
+    let read = c .before in
+    judged (start at .pre) (given .core) (named at) (given .a) (read .before .before .before .word-at2 .ensures) (read .core-at .ensures)
     (c .core-refusal .ensures)
 
 word-at-requires : tie.Need-word-at-requires
@@ -43,9 +65,13 @@ same-length c = search needs
 
 returns : tie.Need-returns
 returns c =
-    let given = c .before .before .before .before .before .before in
-    bad-core (given .pre) (given .args .core) (given .args .a)
-    (named-by (given .pre) (given .args .core) (c .before .before .before .word-at .ensures) (c .before .before .names-core .ensures) (not-true _ (c .before .if1 .taken)))
+    let tested = c .before in
+    let asked = tested .before in
+    let read = asked .before in
+    let start = read .before .before .before in
+    let core = start .args .core in
+    bad-core (start .pre) core (start .args .a)
+    (named-by (start .pre) core (read .word-at .ensures) (asked .names-core .ensures) (not-true _ (tested .if1 .taken)))
     (c .answered .ensures)
 
 word-at-requires-2 : tie.Need-word-at-requires-2
@@ -55,8 +81,7 @@ cast-k : tie.Need-cast-k
 cast-k c = search needs
 
 core-at-requires : tie.Need-core-at-requires
-core-at-requires c κs =
-    let at = c .before .before .before .before in (held-length (start at .pre .held), core-in (start at .pre) (start at .args .core) (named at))
+core-at-requires c κs = inside (c .before .before .before .before)
 
 core-refusal-requires : tie.Need-core-refusal-requires
 core-refusal-requires c κs = search needs
@@ -69,7 +94,9 @@ same-length-2 c = search needs
 
 returns-2 : tie.Need-returns-2
 returns-2 c =
-    let at = c .before .before in refused-later (start (at .before .before .before .before .before .before) .pre) (found at) (c .before .if2 .taken) (c .answered2 .ensures)
+    let refused = c .before in
+    let judged = refused .before in
+    refused-later (start (known judged) .pre) (found judged) (refused .if2 .taken) (c .answered2 .ensures)
 
 enum-known-a : tie.Need-enum-known-a
 enum-known-a c = search needs
@@ -78,8 +105,7 @@ core-with-requires : tie.Need-core-with-requires
 core-with-requires c κs = search needs
 
 put-core-requires : tie.Need-put-core-requires
-put-core-requires c κs =
-    let at = c .before .before .before .before .before .before .before .before .before .before .before .before .before in (held-length (start at .pre .held), core-in (start at .pre) (start at .args .core) (named at))
+put-core-requires c κs = inside (known (c .before .before .before .before .before .before .before))
 
 cast-settle : tie.Need-cast-settle
 cast-settle c = search needs
@@ -89,15 +115,20 @@ cast-settle-2 c = search needs
 
 settle-requires : tie.Need-settle-requires
 settle-requires c κs =
-    let else = c .before .before .before .before .before .before .before .before .before .before .before .before in
-    let sizes = start (else .before .before .before .before .before .before .before) in
-    let b = sizes .args .state .now in
     let stored = c .before .before .before .before .before in
-    let set = soiled-by (sizes .pre) (found (else .before)) (else .if2 .left) (stored .before .core-with .result) (stored .put-core .ensures)
-    (c .before .before .before .before .before .before .before .before .before .before .a .given .1) (stored .before .core-with .ensures) in
-    let same = sizes-stay (sizes .pre) (found (else .before)) (else .if2 .left) (stored .before .core-with .result) (stored .put-core .ensures)
-    (c .before .before .before .before .before .before .before .before .before .before .a .given .1) (stored .before .core-with .ensures) in
-    (set, c .before .before .before .before .before .before .before .before .before .before .before .before .before .before .before .before .before .word-at2 .ensures ∙ sizes-read b .0 ∙ sym (same .0), c .before .before .before .before .before .before .before .before .before .before .before .before .before .before .before .before .before .before .before .before .before .word-at .ensures ∙ sizes-read b .1 ∙ sym (same .1))
+    let made = stored .before in
+    let is-set = made .before .before .before .before .a .given .1 in
+    let accepted = accepted-set stored in
+    let judged = accepted .before in
+    let size-n = judged .before .before .before .before .word-at2 .ensures in
+    let size-m = known judged .before .before .word-at .ensures in
+    let given = start (known judged) .pre in
+    let b = start (known judged) .args .state .now in
+    let set = soiled-by given (found judged) (accepted .if2 .left) (made .core-with .result) (stored .put-core .ensures)
+    is-set (made .core-with .ensures) in
+    let same = sizes-stay given (found judged) (accepted .if2 .left) (made .core-with .result) (stored .put-core .ensures)
+    is-set (made .core-with .ensures) in
+    (set, size-n ∙ sizes-read b .0 ∙ sym (same .0), size-m ∙ sizes-read b .1 ∙ sym (same .1))
 
 answered-requires-3 : tie.Need-answered-requires-3
 answered-requires-3 c κs = search needs
@@ -109,8 +140,7 @@ claimed-core-requires : tie.Need-claimed-core-requires
 claimed-core-requires c κs = search needs
 
 put-core-requires-2 : tie.Need-put-core-requires-2
-put-core-requires-2 c κs =
-    let at = c .before .before .before .before .before .before .before .before .before .before .before .before in (held-length (start at .pre .held), core-in (start at .pre) (start at .args .core) (named at))
+put-core-requires-2 c κs = inside (known (c .before .before .before .before .before .before))
 
 answered-requires-4 : tie.Need-answered-requires-4
 answered-requires-4 c κs = search needs
@@ -120,20 +150,27 @@ same-length-3 c = search needs
 
 returns-3 : tie.Need-returns-3
 returns-3 c =
-    let else = c .before .before .before .before .before .before .before .before .before .before .before .before .before .before .before .before in
-    let stored = c .before .before .before .before .before .before .before .before .before in
-    set-leaves (start (else .before .before .before .before .before .before .before) .pre) (found (else .before)) (else .if2 .left) (stored .before .core-with .result) (stored .put-core .ensures)
-    (c .before .before .before .before .before .before .before .before .before .before .before .before .before .before .a .given .1) (stored .before .core-with .ensures) (c .before .before .before .settle .ensures) (c .answered3 .ensures)
+    let settled = c .before .before .before in
+    let stored = settled .before .before .before .before .before .before in
+    let made = stored .before in
+    let is-set = made .before .before .before .before .a .given .1 in
+    let accepted = accepted-set stored in
+    let judged = accepted .before in
+    set-leaves (start (known judged) .pre) (found judged) (accepted .if2 .left) (made .core-with .result) (stored .put-core .ensures)
+    is-set (made .core-with .ensures) (settled .settle .ensures) (c .answered3 .ensures)
 
 same-length-4 : tie.Need-same-length-4
 same-length-4 c = search needs
 
 returns-4 : tie.Need-returns-4
 returns-4 c =
-    let else = c .before .before .before .before .before .before .before .before .before in
     let stored = c .before .before .before in
-    claim-leaves (start (else .before .before .before .before .before .before .before) .pre) (found (else .before)) (else .if2 .left) (stored .before .claimed-core .result)
-    (stored .put-core2 .ensures) (c .before .before .before .before .before .before .before .enum-told .given .1) (stored .before .claimed-core .ensures) (c .answered4 .ensures)
+    let made = stored .before in
+    let is-claim = made .before .before .before .enum-told .given .1 in
+    let accepted = accepted-claim stored in
+    let judged = accepted .before in
+    claim-leaves (start (known judged) .pre) (found judged) (accepted .if2 .left) (made .claimed-core .result) (stored .put-core2 .ensures)
+    is-claim (made .claimed-core .ensures) (c .answered4 .ensures)
 
 pub on-core-spec : {M : Type 1} → statement M
 on-core-spec =

@@ -17,7 +17,10 @@ same-length : tie.Need-same-length
 same-length c = search needs
 
 returns : tie.Need-returns
-returns c = settled-by (c .before .before .before .before .before .before .before .before .retract-all .ensures) (c .before .before .deliver-all .ensures)
+returns c =
+    let delivered = c .before .before in
+    let retracted = delivered .before .before .before .before .before .before in
+    settled-by (retracted .retract-all .ensures) (delivered .deliver-all .ensures)
 
 pub settle-spec : {M : Type 1} → statement M
 settle-spec =
