@@ -100,7 +100,9 @@ module _ {b active holder keys ranks : List ℕ} (st : Standing b active holder 
 
   -- ---- a command on a source
 
-  source-named : (id : SourceId) (a : DirectAction) → refusalOf (s .controller) (commandOf id a) ≡ 0 → (1 ≤ id .0) × (id .0 ≤ s .controller .n)
+  source-named :
+      (id : SourceId) (a : DirectAction) → refusalOf (s .controller) (commandOf id a) ≡ 0 →
+      (1 ≤ id .0) × (id .0 ≤ s .controller .n)
   source-named id a e = checked (s .controller) (commandOf id a) e .0
 
   -- the action by the controller's name for it
@@ -109,7 +111,8 @@ module _ {b active holder keys ranks : List ℕ} (st : Standing b active holder 
       Executed b (OnSource id o) x b′ keys′ ranks′ → Executed b (commandOf id a) x b′ keys′ ranks′
   as-command id a {o} {x} {b′} {keys′} {ranks′} e did = subst (λ (y : SourceAction). Executed b (OnSource id y) x b′ keys′ ranks′) e did
 
-  module _ (id : SourceId) (a : DirectAction) {x : Outcome} {b′ keys′ ranks′ : List ℕ} (did : Executed b (commandOf id a) x b′ keys′ ranks′) where
+  module _ (id : SourceId) (a : DirectAction) {x : Outcome} {b′ keys′ ranks′ : List ℕ}
+      (did : Executed b (commandOf id a) x b′ keys′ ranks′) where
     number : x .number ≡ callRefusal s (Direct id a)
     number = did .says .0 ∙ direct-number s (st .sound) id a
 
@@ -171,7 +174,8 @@ module _ {b active holder keys ranks : List ℕ} (st : Standing b active holder 
           let n-le = st .sound .controller .consistent .n-le in
           (omega (arith, id-is, backed .some-id), omega (arith, id-is, backed .some-id, backed .id-le, long, n-le))
 
-      module _ {y : Outcome} {b₂ keys₂ ranks₂ : List ℕ} (back : Leaves (handBack (stateFrom b₁) (activeAt s (k .0))) y b₂ keys₂ ranks₂) where
+      module _ {y : Outcome} {b₂ keys₂ ranks₂ : List ℕ}
+          (back : Leaves (handBack (stateFrom b₁) (activeAt s (k .0))) y b₂ keys₂ ranks₂) where
         claimed : handBack (stateFrom b₁) (activeAt s (k .0)) ≡ handBack ((claimOn s k) .state) (activeAt s (k .0))
         claimed = ap (λ (c : Controller). handBack c (activeAt s (k .0))) (held-back (did .held))
 

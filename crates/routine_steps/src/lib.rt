@@ -185,7 +185,8 @@ pub fn begin(
 ) -> bool
     requires { ⌜ (isState (now state) ≡ true) × (length (now active) ≡ maxCores) × (length (now holder) ≡ maxSources) ×
         (length (now keys) ≡ maxCores) × (length (now ranks) ≡ maxSources) ⌝ }
-    ensures { λ sound. ⌜ Running sound (now (state .entry)) (now (active .entry)) (now (holder .entry)) (now (keys .exit)) (now (ranks .exit)) ⌝ }
+    ensures { λ sound. ⌜ Running sound (now (state .entry)) (now (active .entry)) (now (holder .entry))
+        (now (keys .exit)) (now (ranks .exit)) ⌝ }
 {
     let sound = routine_test::sound(state, active, holder);
     if sound {

@@ -1,4 +1,5 @@
--- `routine_steps::command` meets its contract: refused as the controller's command is, and accepted with the holders as they then are. Assumes nothing.
+-- `routine_steps::command` meets its contract: refused as the controller's command is, and accepted with the holders as they then are.
+-- Assumes nothing.
 use native.Mathlib.Omega.{arith}
 use Rattle.routine_steps.proofs.Done.{standing-ready, as-command, command-refused, command-source, command-done}
 use borrow.Author.Needs.{needs}

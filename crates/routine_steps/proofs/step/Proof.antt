@@ -1,4 +1,5 @@
--- `routine_steps::step` meets its contract: an unsound simulation refuses every call, and a sound one does as the three kinds of calls do. Assumes nothing.
+-- `routine_steps::step` meets its contract: an unsound simulation refuses every call, and a sound one does as the three kinds of calls do.
+-- Assumes nothing.
 use borrow.Author.Tests.{not-true, not-false}
 use Rattle.routine_steps.proofs.Gone.{go-refused, stands, gone-on}
 use borrow.Author.Needs.{needs}
