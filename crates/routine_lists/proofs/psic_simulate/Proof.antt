@@ -11,15 +11,17 @@ returns : tie.Need-returns
 returns c =
     let given = c .before .before .before .before .before .before .before in
     let a = given .args in
-    no-run (a .state .now) (a .active .now) (a .holder .now) (a .list .now) (a .answers .now) (a .table .now)
-    (no-answers (a .state .now) (a .active .now) (a .holder .now) (a .list .now) (a .answers .now) (a .table .now) (not-whole (a .list .now) (a .answers .now) (omega arith)))
+    let unfit = no-answers (a .state .now) (a .active .now) (a .holder .now) (a .list .now) (a .answers .now) (a .table .now)
+    (not-whole (a .list .now) (a .answers .now) (omega arith)) in
+    no-run (a .state .now) (a .active .now) (a .holder .now) (a .list .now) (a .answers .now) (a .table .now) unfit
 
 returns-2 : tie.Need-returns-2
 returns-2 c =
     let given = c .before .before .before .before .before .before .before .before in
     let a = given .args in
-    no-run (a .state .now) (a .active .now) (a .holder .now) (a .list .now) (a .answers .now) (a .table .now)
-    (no-answers (a .state .now) (a .active .now) (a .holder .now) (a .list .now) (a .answers .now) (a .table .now) (no-room (a .list .now) (a .answers .now) (omega arith)))
+    let unfit = no-answers (a .state .now) (a .active .now) (a .holder .now) (a .list .now) (a .answers .now) (a .table .now)
+    (no-room (a .list .now) (a .answers .now) (omega arith)) in
+    no-run (a .state .now) (a .active .now) (a .holder .now) (a .list .now) (a .answers .now) (a .table .now) unfit
 
 mul-if3 : tie.Need-mul-if3
 mul-if3 c = search needs
@@ -28,8 +30,9 @@ returns-3 : tie.Need-returns-3
 returns-3 c =
     let given = c .before .before .before .before .before .before .before .before .before in
     let a = given .args in
-    no-run (a .state .now) (a .active .now) (a .holder .now) (a .list .now) (a .answers .now) (a .table .now)
-    (no-table (a .state .now) (a .active .now) (a .holder .now) (a .list .now) (a .answers .now) (a .table .now) (omega arith))
+    let unfit = no-table (a .state .now) (a .active .now) (a .holder .now) (a .list .now) (a .answers .now) (a .table .now)
+    (omega arith) in
+    no-run (a .state .now) (a .active .now) (a .holder .now) (a .list .now) (a .answers .now) (a .table .now) unfit
 
 is-simulation-requires : tie.Need-is-simulation-requires
 is-simulation-requires c κs = search needs
@@ -48,8 +51,9 @@ returns-4 c =
     let tested = c .before in
     let given = tested .before .before .before .before .before .before .before .before .before .before .before .before .before in
     let a = given .args in
-    no-run (a .state .now) (a .active .now) (a .holder .now) (a .list .now) (a .answers .now) (a .table .now)
-    (no-memory (a .state .now) (a .active .now) (a .holder .now) (a .list .now) (a .answers .now) (a .table .now) (failing (tested .is-simulation .ensures) (c .if4 .taken)))
+    let unfit = no-memory (a .state .now) (a .active .now) (a .holder .now) (a .list .now) (a .answers .now) (a .table .now)
+    (failing (tested .is-simulation .ensures) (c .if4 .taken)) in
+    no-run (a .state .now) (a .active .now) (a .holder .now) (a .list .now) (a .answers .now) (a .table .now) unfit
 
 simulate-all-requires : tie.Need-simulate-all-requires
 simulate-all-requires c κs =
@@ -58,7 +62,8 @@ simulate-all-requires c κs =
     let given = tested .before .before .before .before .before .before .before .before .before .before .before .before .before in
     let a = given .args in
     all-fit (a .state .now) (a .active .now) (a .holder .now) (a .list .now) (a .answers .now) (a .table .now)
-    (passing (tested .is-simulation .ensures) (passed .if4 .left)) (whole-room (a .list .now) (a .answers .now) (omega arith) (omega arith)) (omega arith)
+    (passing (tested .is-simulation .ensures) (passed .if4 .left))
+    (whole-room (a .list .now) (a .answers .now) (omega arith) (omega arith)) (omega arith)
 
 same-length-4 : tie.Need-same-length-4
 same-length-4 c = search needs
