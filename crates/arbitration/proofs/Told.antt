@@ -1,7 +1,8 @@
 -- The first of the least cores and of the highest candidates, by numbers that hold key and place. Assumes nothing.
 --   SoFar, so-far-none, -taken, -left, -all    a walk for the least or the greatest: no number yet, one more that is taken or left, the end
 --   least-told                      the least number of the cores tells the least core and its current priority
---   Told, highest-told              the greatest number of the sources tells whether the highest candidate interrupts a core, and which it is
+--   Told, highest-told              the greatest number of the sources tells whether the highest candidate interrupts a core, and which
+--                                   it is
 use Prim.Native.Nat.{ℕ, _+_, _*_, _-_, _%_, _<_, _≤_}
 use mathlib.Core.Path.{_≡_, refl, sym, subst, _∙_}
 use mathlib.Core.List.{List}
@@ -139,6 +140,10 @@ module _ (l : List Source) (n : ℕ) (ks : List ℕ) {x : ℕ} (n-le : n ≤ max
         here : getD ks (o .at) 0 ≡ rankStep * (source (o .at)) .priority + (maxSources - o .at)
         here = number-on (o .at) (o .inside) is
 
+        -- a source that is no candidate ranks below it
+        above-none : (j : ℕ) → candidate (source j) ≡ false → rank (source j) < rank (source (o .at))
+        above-none j e = omega (arith, rank-none (source j) e, rank-candidate (source (o .at)) is)
+
         before : (j : ℕ) → j < o .at → Flag (candidate (source j)) → higher l (o .at) j ≡ true
         before j h (on e) =
             let below : j < n = omega (arith, o .inside) in
@@ -154,7 +159,7 @@ module _ (l : List Source) (n : ℕ) (ks : List ℕ) {x : ℕ} (n-le : n ≤ max
               o .inside,
               n-le,
             ))
-        before j h (off e) = lt-ltb (rank (source j)) (rank (source (o .at))) (omega (arith, rank-none (source j) e, rank-candidate (source (o .at)) is))
+        before j h (off e) = lt-ltb (rank (source j)) (rank (source (o .at))) (above-none j e)
 
         after : (j : ℕ) → o .at ≤ j → j < n → Flag (candidate (source j)) → higher l j (o .at) ≡ false
         after j h g (on e) =
@@ -170,7 +175,7 @@ module _ (l : List Source) (n : ℕ) (ks : List ℕ) {x : ℕ} (n-le : n ≤ max
               o .inside,
               n-le,
             ))
-        after j h g (off e) = le-ltb (rank (source (o .at))) (rank (source j)) (omega (arith, rank-none (source j) e, rank-candidate (source (o .at)) is))
+        after j h g (off e) = le-ltb (rank (source (o .at))) (rank (source j)) (omega (arith, above-none j e))
 
     at-is : o .at ≡ highest l n
     at-is = first-unique (higher l) 0 n (o .at) (highest l n) first-candidate (highest-first l n (omega (arith, o .inside)))
@@ -190,7 +195,10 @@ module _ (l : List Source) (n : ℕ) (ks : List ℕ) {x : ℕ} (n-le : n ≤ max
     told-on =
         record {
           rests = λ c h. rw (top-candidate, le-ltb (currentPriority c) (top .priority) (omega (arith, number-is, inside-top, n-le)));
-          interrupts = λ c h. and-in top-candidate (lt-ltb (currentPriority c) (top .priority) (omega (arith, number-is, inside-top, n-le)));
+          interrupts =
+              λ c h.
+              let above : currentPriority c < top .priority = omega (arith, number-is, inside-top, n-le) in
+              and-in top-candidate (lt-ltb (currentPriority c) (top .priority) above);
           which = λ h. omega (arith, number-is, inside-top, n-le);
           fits = omega (arith, number-is, inside-top, n-le);
         }

@@ -49,7 +49,11 @@ answer-with-requires c κs = search needs
 
 returns : tie.Need-returns
 returns c =
-    c .answer-with .ensures ∙ answered _ (c .before .before .before .before .before .before .before .before .before .before .before .before .before .before .before .args .c) (back (c .before .before .before .before .before .before .before .before .before .before .before .before .before)) (c .before .before .before .before .step .ensures) (c .before .state-from .ensures)
+    let read = c .before in
+    let did = read .before .before .before in
+    let put = did .before .before .before .before .before .before .before .before .before in
+    let start = put .before .before in
+    c .answer-with .ensures ∙ answered _ (start .args .c) (back put) (did .step .ensures) (read .state-from .ensures)
 
 pub execute-spec : {M : Type 1} → statement M
 execute-spec =

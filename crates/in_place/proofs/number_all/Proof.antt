@@ -28,9 +28,9 @@ core-in c =
 
 source-in : (c : tie.In-loop2 Inv-loop μ-loop Inv-loop2 μ-loop2) → c .before .loop2 .i < maxSources
 source-in c =
-    let start = c .before .before .before .before .before .before .before in
-    omega
-    (arith, sizes-read (start .args .state .now) .0, c .before .before .before .before .before .word-at .ensures, start .pre .1, c .loop2-test .taken)
+    let read = c .before .before .before .before .before in
+    let start = read .before .before in
+    omega (arith, sizes-read (start .args .state .now) .0, read .word-at .ensures, start .pre .1, c .loop2-test .taken)
 
 word-at-requires : tie.Need-word-at-requires Inv-loop μ-loop Inv-loop2 μ-loop2
 word-at-requires c κs = search needs
@@ -69,7 +69,8 @@ loop-again : tie.Need-loop-again Inv-loop μ-loop Inv-loop2 μ-loop2
 loop-again c =
     let turn = c .before .before in
     let b = turn .before .before .before .before .before .args .state .now in
-    (key-more b (turn .before .loop .inv .0) (core-in turn) (c .before .core-at .ensures) (c .key-at .ensures), omega (arith, turn .loop-test .taken))
+    let filled = key-more b (turn .before .loop .inv .0) (core-in turn) (c .before .core-at .ensures) (c .key-at .ensures) in
+    (filled, omega (arith, turn .loop-test .taken))
 
 loop2-holds : tie.Need-loop2-holds Inv-loop μ-loop Inv-loop2 μ-loop2
 loop2-holds c = (filling-begin _ _ _ (c .before .before .before .before .before .pre .4), omega arith)

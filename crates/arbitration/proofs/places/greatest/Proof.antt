@@ -1,5 +1,5 @@
--- `arbitration::places::greatest` meets its contract: the greatest so far is that of the numbers passed. The measure is what is left of the row.
--- Assumes nothing.
+-- `arbitration::places::greatest` meets its contract: the greatest so far is that of the numbers passed. The measure is what is left of the
+-- row. Assumes nothing.
 use Prim.Native.Nat.{ℕ, _-_}
 use mathlib.Core.List.{List}
 use mathlib.Core.Logic.{⊎-elim}
@@ -51,7 +51,8 @@ loop-again c =
 
 returns : tie.Need-returns Inv-loop μ-loop
 returns c =
-    so-far-all AtLeast (c .before .before .before .args .ranks .now) (c .before .before .before .args .n) (c .before .loop .inv) (c .loop-test .left)
+    let given = c .before .before .before .args in
+    so-far-all AtLeast (given .ranks .now) (given .n) (c .before .loop .inv) (c .loop-test .left)
 
 pub greatest-spec : {M : Type 1} → statement M
 greatest-spec =

@@ -51,10 +51,11 @@ loop-again c =
 
 returns : tie.Need-returns Inv-loop μ-loop
 returns c =
-    so-far-all AtMost (c .before .before .before .args .keys .now) (c .before .before .before .args .m) (c .before .loop .inv) (c .loop-test .left)
+    let given = c .before .before .before .args in
+    so-far-all AtMost (given .keys .now) (given .m) (c .before .loop .inv) (c .loop-test .left)
 
 pub lowest-spec : {M : Type 1} → statement M
 lowest-spec =
     tie.close
-    (tie.spec Inv-loop μ-loop element-copy-out-least loop-holds mul-if1 element-copy-out-if1 mul-least element-copy-out-least-2 add-k loop-less
-    loop-again returns)
+    (tie.spec Inv-loop μ-loop element-copy-out-least loop-holds mul-if1 element-copy-out-if1 mul-least element-copy-out-least-2 add-k
+    loop-less loop-again returns)

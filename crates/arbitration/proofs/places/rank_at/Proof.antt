@@ -35,7 +35,11 @@ add-result : tie.Need-add-result
 add-result c = search needs
 
 returns : tie.Need-returns
-returns c = at-candidate (c .before .before .before .args .r) (c .before .before .before .args .i) (sym (c .before .before .is-candidate .ensures) ∙ c .before .if1 .taken)
+returns c =
+    let tested = c .before in
+    let asked = tested .before in
+    let given = asked .before .args in
+    at-candidate (given .r) (given .i) (sym (asked .is-candidate .ensures) ∙ tested .if1 .taken)
 
 returns-2 : tie.Need-returns-2
 returns-2 c = at-none (c .before .before .args .r) (c .before .before .args .i) (sym (c .before .is-candidate .ensures) ∙ c .if1 .left)
