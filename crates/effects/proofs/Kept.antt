@@ -1,7 +1,7 @@
 -- A command keeps a sound state sound, and settles within its bounds. Assumes nothing.
 --   execute-settles    what settling does after an accepted command
 --   wellFormed-kept, nothing-cut-short, cycles-bounded    the statements of those names
-use Prim.Native.Nat.{ℕ, _-_, _*_, _≤_}
+use Prim.Native.Nat.{ℕ, _*_, _≤_}
 use mathlib.Core.Path.{_≡_, refl, subst}
 use native.Mathlib.Omega.{arith}
 use Rattle.settling.proofs.Forward.{settle-beyond, countOf-beyond}

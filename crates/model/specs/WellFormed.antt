@@ -9,7 +9,7 @@
 --   quiet, Quiet              no candidate and no covered priority is above a current one
 --   frugal, Frugal            no covered priority reaches the priority of any filled box, so that no box could be left empty
 -- The lists' lengths are those of the arrays in every value that a program can hold.
-use Prim.Native.Nat.{ℕ, _-_, _<_, _≤_}
+use Prim.Native.Nat.{ℕ, _<_, _≤_}
 use mathlib.Core.Path.{_≡_}
 use mathlib.Core.List.{List}
 use mathlib.Core.Bool.{Bool, true, false, not, _&&_, _||_}

@@ -2,7 +2,7 @@
 --   command-refused, command-done             a command on a source
 --   enter-refused, enter-ready, enter-done    an entry: its claim is refused; claimed; the interrupted request redelivered
 --   exit-refused, exit-ready, exit-done       an exit: refused; completed; the core set to 0
-use Prim.Native.Nat.{ℕ, suc, pred, _+_, _-_, _*_, _<_, _≤_}
+use Prim.Native.Nat.{ℕ, pred, _+_, _-_, _<_, _≤_}
 use mathlib.Core.Path.{_≡_, refl, sym, _∙_, ap, subst}
 use mathlib.Core.Logic.{_≢_}
 use mathlib.Core.List.{List}
@@ -21,7 +21,7 @@ use Rattle.model.specs.declared.Command.the-variants.{OnSource, OnCore}
 use Rattle.model.specs.declared.SourceAction.{SourceAction}
 use Rattle.model.specs.declared.SourceAction.the-variants.{Redeliver, Complete}
 use Rattle.model.specs.declared.CoreAction.the-variants.{Claim, SetCorePriority}
-use Rattle.model.specs.Records.{maxSources, sourceId, indexOf, coreAt}
+use Rattle.model.specs.Records.{sourceId, coreAt}
 use Rattle.model.specs.Commands.{namesCore, refusalOf, refused, settled, execute}
 use Rattle.effects.proofs.Accepted.{by-answer}
 use Rattle.effects.proofs.Checked.{checked}
@@ -36,12 +36,11 @@ use Rattle.routines.specs.declared.Routines.{Routines}
 use Rattle.routines.specs.declared.DirectAction.{DirectAction}
 use Rattle.routines.specs.declared.RoutineCall.{RoutineCall}
 use Rattle.routines.specs.declared.RoutineCall.the-variants.{Direct, Enter, Exit}
-use Rattle.routines.specs.declared.RoutineAnswer.{RoutineAnswer}
-use Rattle.routines.specs.Routines.{activeAt, holderAt, SoundRoutines, actionOf, commandOf, holderAfter, commanded, claimOn, handBack, entered, completeOn, lower, exited, callRefusal, acceptedCall, refusedCall, afterRefusedCall, callRoutine, boxHolder}
+use Rattle.routines.specs.Routines.{activeAt, actionOf, commandOf, holderAfter, commanded, claimOn, handBack, entered, completeOn, lower, exited, callRefusal, refusedCall, afterRefusedCall, callRoutine}
 use Rattle.routines.specs.Calls.{routinesIn}
 use Rattle.routine_laws.proofs.Answered.{call-accepted, call-refused}
-use Rattle.routine_laws.proofs.Standing.{sound-accepted, enter-checked, exit-checked}
-use Rattle.routine_laws.proofs.EntryKept.{claim-id, some-box}
+use Rattle.routine_laws.proofs.Standing.{sound-accepted, enter-checked}
+use Rattle.routine_laws.proofs.EntryKept.{claim-id}
 use Rattle.routine_laws.proofs.Cycles.{entry-takes-no-cycle, call-cycles-bounded}
 use Rattle.routine_steps.specs.declared.Stepped.{Stepped}
 use Rattle.routine_steps.specs.Simulated.{takenFrom, Standing, Did}

@@ -23,7 +23,7 @@ use Rattle.routine_laws.proofs.Test.{routines-test-exact}
 use Rattle.routine_laws.proofs.Answered.{call-refused, handed-back}
 use Rattle.routine_laws.proofs.Kept.{routines-kept}
 use Rattle.routine_steps.specs.declared.Stepped.{Stepped}
-use Rattle.routine_steps.specs.Simulated.{takenFrom, Standing, Did, Running, Went}
+use Rattle.routine_steps.specs.Simulated.{Standing, Did, Running, Went}
 use Rattle.routine_steps.proofs.Done.{Answers, none-taken}
 
 -- ---- before the first call

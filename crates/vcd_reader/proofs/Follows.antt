@@ -8,12 +8,12 @@ use Prim.Native.Nat.{ℕ, _+_, _<_, _≤_}
 use mathlib.Core.Path.{_≡_, refl, sym, ap, _∙_}
 use mathlib.Core.List.{List, [], _∷_, _++_, append-nil}
 use mathlib.Core.Bool.{true, false}
-use lib.ListN.{length, getD, drop, drop-of-length-le}
+use lib.ListN.{length, getD, drop}
 use native.Mathlib.Omega.{arith}
 use Rattle.model.specs.declared.Command.{Command}
 use Rattle.recording.specs.declared.Reader.{Reader}
 use Rattle.recording.specs.declared.Read.{Read}
-use Rattle.recording.specs.Words.{separator, Word, wordAt, cut}
+use Rattle.recording.specs.Words.{separator, Word, wordAt}
 use Rattle.recording.specs.Records.{noStrobe, only}
 use Rattle.recording.specs.Stamps.{commandsOf}
 use Rattle.recording.specs.Reading.{isGood, readWord, progress, advance, readWords, timesAt, timesFrom}
@@ -53,11 +53,6 @@ module _ (r : Reader) (e : isGood r ≡ false) where
 -- ---- parts of a text
 
 module _ (t : List ℕ) where
-  -- no word from the end on
-  none-left : (i : ℕ) → length t ≤ i → wordsFrom t i ≡ []
-  unfolding cut
-  none-left i h = ap (cut i []) (drop-of-length-le t h)
-
   pub follows-none : (i : ℕ) (r : Reader) → Follows t i r i r
   follows-none i r = record { moves = omega arith; within = λ h. h; reads = λ cs. refl; times = refl }
 

@@ -64,9 +64,6 @@ stayed = (stay-ref (0 ∷ []) tt (plain (λ _. Co.the-row)), tt)
 abbrev cores : Core → List Val
 cores = LL.vals Co.the-type Co′.the-laws
 
-abbrev takens : Taken → List Val
-takens = LL.vals Ta.the-type Ta′.the-laws
-
 abbrev claimeds : Claimed → List Val
 claimeds = LL.vals Cl.the-type Cl′.the-laws
 

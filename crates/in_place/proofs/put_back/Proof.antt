@@ -1,5 +1,5 @@
 -- `in_place::put_back` meets its contract: a filled box names a source, which is written with its mark off. Assumes nothing.
-use Prim.Native.Nat.{_-_, _≤_}
+use Prim.Native.Nat.{_≤_}
 use native.Mathlib.Omega.{arith}
 use Rattle.model.specs.Records.{maxSources}
 use Rattle.in_place.proofs.Stored.{back-empty, back-filled}

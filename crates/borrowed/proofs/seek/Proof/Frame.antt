@@ -1,7 +1,6 @@
 -- What `borrowed::seek` has in hand between two turns of its loop, and how the function ends. The borrow of the list is looked
 -- into once, before the loop, and shut once, after it.
 -- Assumes nothing.
-use mathlib.Core.Path.{_≡_}
 use Prim.Native.Nat.{ℕ}
 use mathlib.Core.List.{[], _∷_, List}
 use lib.ListN.{length}

@@ -1,5 +1,4 @@
 -- `vcd_words::scanning::scan` meets its contract. Assumes nothing.
-use Prim.Native.Nat.{_-_}
 use native.Mathlib.Omega.{arith}
 use Rattle.vcd_words.proofs.Numbers.{scan-none, run-inside, scan-first, scan-more}
 use borrow.Author.Needs.{needs}
