@@ -2,11 +2,11 @@
 --   routinesMachine    the calls of a simulation with its table, as a machine that answers each by five bytes
 --   cell-in-words      a cell of a table, in its words
 --   events-read        the events read from the answers' bytes are those of the calls
-use Prim.Native.Nat.{ℕ, zero, suc, _+_, _-_, _*_, _^_, _/_, _%_, _<_, _≤_, min}
+use Prim.Native.Nat.{ℕ, zero, suc, _+_, _*_, _<_, _≤_}
 use mathlib.Core.Path.{_≡_, refl, sym, _∙_, ap, subst}
 use mathlib.Core.Logic.{_≢_}
 use mathlib.Core.List.{List, [], _∷_, _++_}
-use mathlib.Core.Bool.{Bool, true, false, cond}
+use mathlib.Core.Bool.{true}
 use native.Mathlib.Omega.{arith}
 use native.Mathlib.Nat.{mul-suc}
 use lib.ListN.{length, getD, drop, replicate, length-replicate, List·getD-append}
@@ -14,7 +14,6 @@ use lib.Seq.{sets, getD-append-add}
 use Rattle.lists.specs.Rows.{joined, tabulated}
 use Rattle.lists.proofs.Bools.{Flag, on, off, flag, and-l, and-in}
 use borrow.Author.Tests.{eq-eqb}
-use Rattle.model.specs.declared.Controller.{Controller}
 use Rattle.model.specs.Records.{maxCores}
 use Rattle.model.specs.Statements.{InRange}
 use Rattle.layout.specs.Bytes.{answerSize, stateBytes, isState, numberIn, noCount, roomFor}
@@ -27,9 +26,8 @@ use Rattle.layout.proofs.Lists.{answers-fit}
 use Rattle.well_formed.proofs.Reset.{makes-exactly}
 use Rattle.routines.specs.declared.Routines.{Routines}
 use Rattle.routines.specs.declared.RoutineCall.{RoutineCall}
-use Rattle.routines.specs.declared.RoutineAnswer.{RoutineAnswer}
-use Rattle.routines.specs.Routines.{makeRoutines, freshRoutines, SoundRoutines, callRefusal, acceptedCall, callRoutine, Handovers, rowAt, cellAt, noHandovers, mostHandovers, tableAfter, runRoutines, runTable}
-use Rattle.routines.specs.History.{Event, eventOf, handovers, historyAfter, history}
+use Rattle.routines.specs.Routines.{makeRoutines, freshRoutines, SoundRoutines, callRefusal, acceptedCall, callRoutine, Handovers, rowAt, cellAt, noHandovers, tableAfter, runRoutines, runTable}
+use Rattle.routines.specs.History.{Event, eventOf, historyAfter}
 use Rattle.routines.specs.Calls.{oneCall, callOf, callsIn, routinesIn, isSimulation, tableSize, tableIn, tableWords, packedCall, memoryWith, memoryOf, fitsMake, makeRoutinesCall, calledOn, routineCall, simulateCallOf, fitsSimulate, callAnswers, callAnswerBytes, simulated, simulateCall}
 use Rattle.routines.specs.Statements.{NoneFilled, StrictlyRun}
 use Rattle.routines.specs.CallStatements.{eventsIn, Simulated, simulatedFresh, RefusedCallKeeps, RefusedSimulateKeeps, SimulateStrict}
@@ -105,7 +103,9 @@ in-row w (x ∷ t) wide (suc r) c r-lt c-lt =
     rw behind
     (getD-append-add x (tableWords t) (w * r + c) 0 ∙ in-row w t (λ i l. wide (suc i) (omega (arith, l))) r c (omega (arith, r-lt)) c-lt)
 
-cell-in-words : (t : Handovers) → Whole t → (r c : ℕ) → r < maxCores → c < maxCores → getD (tableWords t) (maxCores * r + c) 0 ≡ cellAt t r c
+cell-in-words :
+    (t : Handovers) → Whole t → (r c : ℕ) → r < maxCores → c < maxCores →
+    getD (tableWords t) (maxCores * r + c) 0 ≡ cellAt t r c
 cell-in-words t whole r c r-lt c-lt =
     in-row maxCores t (λ i l. whole .columns i (omega (arith, l, whole .rows))) r c (omega (arith, r-lt, whole .rows)) c-lt
 
@@ -169,7 +169,9 @@ module _ (s : Routines) (sound : SoundRoutines s) where
       ≡ simulated s (callsIn list) answers (replicate tableSize 0)
   unfolding simulateCall
   ran list answers room =
-      rw (and-in encodes (and-in room (eq-eqb (length (replicate {A = ℕ} tableSize 0)) tableSize (length-replicate {A = ℕ} tableSize 0))), read-back s sound) refl
+      let table : List ℕ = replicate tableSize 0 in
+      let wide = eq-eqb (length table) tableSize (length-replicate {A = ℕ} tableSize 0) in
+      rw (and-in encodes (and-in room wide), read-back s sound) refl
 
 pub simulate-strict : SimulateStrict
 simulate-strict n m b active holder list answers range fits room =
@@ -180,7 +182,8 @@ simulate-strict n m b active holder list answers range fits room =
     let same : routinesIn (stateBytes (u .controller)) (u .active) (u .holder) ≡ u = read-back u (run-sound s cs fresh) in
     let x = fresh-run-tallied n m cs range in
     let enough : answerSize * length cs ≤ length answers = answers-fit list answers (λ number at p. oneCall (callOf number at p)) room in
-    let told : sets answers 0 (joined callAnswerBytes (callAnswers s cs)) ≡ joined callAnswerBytes (callAnswers s cs) ++ drop (answerSize * length cs) answers
+    let written : List ℕ = joined callAnswerBytes (callAnswers s cs) in
+    let told : sets answers 0 written ≡ written ++ drop (answerSize * length cs) answers
     = answers-in-front routinesMachine answers (counting s noHandovers) cs enough in
     let done : simulatedFresh n m (makeRoutinesCall n m b active holder) list answers ≡ simulated s cs answers (replicate tableSize 0)
     = ap (λ made. simulatedFresh n m made list answers) (made n m b active holder range fits) ∙ ran s fresh list answers room in

@@ -98,7 +98,8 @@ module _ (n m : ℕ) (b : Ledger) (s : Controller) (M : Matches n m b s) (W : We
       where
         go :
             Dec (j ≡ i) →
-            write (b .request) (suc i) (claimedRequest (priorityOf (b .request (suc i)))) (suc j) ≡ requestOf (withCores s (claimedCores s k)) j
+            write (b .request) (suc i) (claimedRequest (priorityOf (b .request (suc i)))) (suc j)
+            ≡ requestOf (withCores s (claimedCores s k)) j
         go (yes e) = rw (e, eq-eqb (suc i) (suc i) refl, unboxed, pending, delivered, ledger-priority)
         go (no apart) = rw (ne-eqb (suc j) (suc i) (omega arith), others-boxed j apart) (M .request j h)
 

@@ -38,8 +38,8 @@ returns-4 c =
     let longs = holds .before in
     let sized = longs .before in
     let start = sized .before .before .before .before in
-    make-refused (start .args .state .now) (start .args .active .now) (start .args .holder .now) (start .args .n) (start .args .m) (sized .if1 .left) (longs .if2 .left) (holds .if3 .left)
-    (made .make .result) (made .make .ensures) _ (omega arith) refl
+    make-refused (start .args .state .now) (start .args .active .now) (start .args .holder .now) (start .args .n) (start .args .m)
+    (sized .if1 .left) (longs .if2 .left) (holds .if3 .left) (made .make .result) (made .make .ensures) _ (omega arith) refl
 
 put-state-requires : tie.Need-put-state-requires
 put-state-requires c κs = search needs
@@ -74,9 +74,9 @@ returns-5 c =
     let longs = holds .before in
     let sized = longs .before in
     let start = sized .before .before .before .before in
-    make-done (start .args .state .now) (start .args .active .now) (start .args .holder .now) (start .args .n) (start .args .m) (sized .if1 .left) (longs .if2 .left) (holds .if3 .left)
-    (made .make .result) (made .make .ensures) (omega (arith, passed .if4 .left)) (put .put-state .ensures)
-    (first .clear .ensures) (cleared .clear2 .ensures)
+    make-done (start .args .state .now) (start .args .active .now) (start .args .holder .now) (start .args .n) (start .args .m)
+    (sized .if1 .left) (longs .if2 .left) (holds .if3 .left) (made .make .result) (made .make .ensures)
+    (omega (arith, passed .if4 .left)) (put .put-state .ensures) (first .clear .ensures) (cleared .clear2 .ensures)
 
 pub psic-make-routines-spec : {M : Type 1} → statement M
 psic-make-routines-spec =
