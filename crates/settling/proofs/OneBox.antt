@@ -15,7 +15,7 @@ use Rattle.model.specs.declared.Controller.{Controller}
 use Rattle.model.specs.Records.{resetSource, emptyBox, indexOf, withDelivered, sourceAt, coreAt}
 use Rattle.model.specs.WellFormed.{Holding, Consistent}
 use Rattle.settling.specs.Phases.{Kept}
-use Rattle.settling.proofs.Writes.{Names}
+use Rattle.settling.proofs.Writes.{BoxFilled, Names}
 use Rattle.settling.proofs.Keeps.{kept-n, kept-m, kept-sources-length, kept-cores-length, kept-source, kept-configured, kept-pending, kept-priority, kept-core-configured}
 
 -- without its mark, a source that is not delivered is what it was
@@ -25,9 +25,6 @@ unmarked-is r e = ap (λ (d : Bool). withDelivered d r) (sym e)
 -- two ids that are not 0 are told apart by their indices
 same-id : (x y : SourceId) → 1 ≤ x .0 → 1 ≤ y .0 → indexOf x ≡ indexOf y → x .0 ≡ y .0
 same-id x y h h′ e = sym (suc-pred-eq-of-pos h) ∙ ap suc e ∙ suc-pred-eq-of-pos h′
-
-abbrev Filled : Controller → ℕ → Type 0
-Filled s k = (coreAt s k) .message .filled ≡ true
 
 abbrev SameSource : Core → Core → Type 0
 SameSource c d = c .message .source .0 ≡ d .message .source .0
@@ -40,8 +37,8 @@ pub record BoxWritten (s s′ : Controller) (k : ℕ) : Type 0 where
 
 pub record BoxFits (s s′ : Controller) (k : ℕ) : Type 0 where
   pub empty : (coreAt s′ k) .message .filled ≡ false → (coreAt s′ k) .message ≡ emptyBox
-  pub backed : Filled s′ k → Holding s′ (coreAt s′ k)
-  pub alone : (j : ℕ) → j < s .m → j ≢ k → Filled s j → Filled s′ k → ¬ (SameSource (coreAt s j) (coreAt s′ k))
+  pub backed : BoxFilled s′ k → Holding s′ (coreAt s′ k)
+  pub alone : (j : ℕ) → j < s .m → j ≢ k → BoxFilled s j → BoxFilled s′ k → ¬ (SameSource (coreAt s j) (coreAt s′ k))
 
 module _ (s s′ : Controller) (k : ℕ) (w : BoxWritten s s′ k) where
   -- a law of the cores: of core k by what was written, of the others as they were
@@ -55,13 +52,13 @@ module _ (s s′ : Controller) (k : ℕ) (w : BoxWritten s s′ k) where
 
 module _ (s s′ : Controller) (k : ℕ) (c : Consistent s) (k-in : k < s .m) (w : BoxWritten s s′ k) where
   -- two boxes name two sources
-  other-unnamed : (j : ℕ) → j < s .m → j ≢ k → Filled s j → ¬ (Names ((coreAt s k) .message) (indexOf ((coreAt s j) .message .source)))
+  other-unnamed : (j : ℕ) → j < s .m → j ≢ k → BoxFilled s j → ¬ (Names ((coreAt s k) .message) (indexOf ((coreAt s j) .message .source)))
   other-unnamed j h q f n =
       q (c .distinct j k h k-in f (n .0)
       (same-id ((coreAt s j) .message .source) ((coreAt s k) .message .source)
       (c .backed j h f .some-id) (c .backed k k-in (n .0) .some-id) (n .1)))
 
-  other-backed : (j : ℕ) → j < s .m → j ≢ k → Filled s j → Holding s′ (coreAt s j)
+  other-backed : (j : ℕ) → j < s .m → j ≢ k → BoxFilled s j → Holding s′ (coreAt s j)
   other-backed j h q f = go (c .backed j h f)
     where
       go : Holding s (coreAt s j) → Holding s′ (coreAt s j)
@@ -85,11 +82,11 @@ module _ (s s′ : Controller) (k : ℕ) (c : Consistent s) (k-in : k < s .m) (w
   still-idle i h e = (w .stays-idle i e (c .idle-source i h e .0), kept-priority s s′ (w .kept) i ∙ c .idle-source i h e .1)
 
   module _ (b : BoxFits s s′ k) where
-    still-alone : (j : ℕ) → j < s .m → j ≢ k → Filled s′ j → Filled s′ k → ¬ (SameSource (coreAt s′ j) (coreAt s′ k))
+    still-alone : (j : ℕ) → j < s .m → j ≢ k → BoxFilled s′ j → BoxFilled s′ k → ¬ (SameSource (coreAt s′ j) (coreAt s′ k))
     still-alone j h q f f′ e =
         b .alone j h q (rw (w .core-other j q) at f) f′ (rw (w .core-other j q) at e)
 
-    still-distinct : (j l : ℕ) → j < s .m → l < s .m → Filled s′ j → Filled s′ l → SameSource (coreAt s′ j) (coreAt s′ l) → j ≡ l
+    still-distinct : (j l : ℕ) → j < s .m → l < s .m → BoxFilled s′ j → BoxFilled s′ l → SameSource (coreAt s′ j) (coreAt s′ l) → j ≡ l
     still-distinct j l h h′ f f′ e = go (ℕ-discrete j k) (ℕ-discrete l k)
       where
         go : Dec (j ≡ k) → Dec (l ≡ k) → j ≡ l

@@ -20,7 +20,7 @@ use Rattle.model.specs.Settling.{deliver, retract, arbitrate, next, isDelivery,
 use Rattle.lists.proofs.Bools.{clash, Flag, on, off, flag}
 use Rattle.arbitration.proofs.LeastCore.{least-filled}
 use Rattle.settling.specs.Phases.{AllDirty, Delivering, Phase, retracting, delivering, Spared, PhasesSpare}
-use Rattle.settling.proofs.Writes.{core-deliver-same, core-deliver-other, delivered-to}
+use Rattle.settling.proofs.Writes.{BoxFilled, core-deliver-same, core-deliver-other, delivered-to}
 use Rattle.settling.proofs.Keeps.{deliver-keeps, kept-m}
 use Rattle.settling.proofs.Arbitrated.{Arbitrated, number-in, configured-le-current}
 use Rattle.settling.proofs.Deliver.{deliver-consistent, deliver-delivering}
@@ -29,12 +29,9 @@ use Rattle.settling.proofs.Retractions.{clean-delivering}
 use Rattle.settling.proofs.Next.{Contest, Next, resting, retracting, arbitrating, lowCore, topSource, interrupts, next-cases, next-clean}
 use Rattle.settling.proofs.Run.{cycle-is}
 
-abbrev Filled : Controller → ℕ → Type 0
-Filled s k = (coreAt s k) .message .filled ≡ true
-
 abbrev pub FilledFirst : Controller → ℕ → Type 0
 FilledFirst s k =
-    (coreAt s k) .message .filled ≡ false → (j : ℕ) → j < s .m → Filled s j → currentPriority (coreAt s k) < currentPriority (coreAt s j)
+    (coreAt s k) .message .filled ≡ false → (j : ℕ) → j < s .m → BoxFilled s j → currentPriority (coreAt s k) < currentPriority (coreAt s j)
 
 -- ---- the core that arbitration takes
 
@@ -67,11 +64,11 @@ module _ {s : Controller} {i k : ℕ} (a : Arbitrated s i k) (first : FilledFirs
   abbrev box : ℕ → ℕ
   box j = (coreAt s j) .message .priority
 
-  box-current : (j : ℕ) → Filled s j → currentPriority (coreAt s j) ≡ box j
+  box-current : (j : ℕ) → BoxFilled s j → currentPriority (coreAt s j) ≡ box j
   box-current j e = rw e
 
   -- what is under a filled box, and under core k's after the delivery, is below every other box
-  covered-here : (j : ℕ) → j < s .m → Filled s j → (coreAt s k) .configured < box j
+  covered-here : (j : ℕ) → j < s .m → BoxFilled s j → (coreAt s k) .configured < box j
   covered-here j h e = go (flag ((coreAt s k) .message .filled))
     where
       go : Flag ((coreAt s k) .message .filled) → (coreAt s k) .configured < box j
@@ -79,7 +76,7 @@ module _ {s : Controller} {i k : ℕ} (a : Arbitrated s i k) (first : FilledFirs
       go (off u) = omega (arith, configured-le-current a, first u j h e, box-current j e)
 
   -- and below the priority delivered
-  covered-new : (j : ℕ) → j < s .m → Filled s j → (coreAt s j) .configured < (sourceAt s i) .priority
+  covered-new : (j : ℕ) → j < s .m → BoxFilled s j → (coreAt s j) .configured < (sourceAt s i) .priority
   covered-new j h e = omega (arith, a .delivering .covered j k h (a .won .core-in) e, a .won .above)
 
   abbrev Under : Core → Core → Type 0

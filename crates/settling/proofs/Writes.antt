@@ -1,4 +1,5 @@
 -- What is read after a retraction or a delivery: each core, each source. Assumes nothing.
+--   BoxFilled s k            the box of core k is filled
 --   Names b j                a filled box b names source j + 1
 --   putBackAt b j r          source r at index j once box b is put back: the mark goes at the one index that a filled b names
 --   core-.., source-..       a core and a source of `retract s k` and of `deliver s i k`, at the index written and at others
@@ -39,6 +40,9 @@ module _ {A : Type 0} where
       go (off p) = rw p (getD-set-other l i j (f (getD l i d)) d (eqb-false j i p))
 
 -- ---- the request of a box goes back
+
+abbrev pub BoxFilled : Controller → ℕ → Type 0
+BoxFilled s k = (coreAt s k) .message .filled ≡ true
 
 -- a filled box names source j + 1
 abbrev pub Names : MessageBox → ℕ → Type 0
