@@ -13,7 +13,7 @@ pub mod Requests
 pub mod SourceMatching
 pub mod CoreMatching
 pub mod Matching
-pub mod Filled
+pub mod FilledBoxes
 pub mod Placements
 pub mod Fewest
 pub mod MatchedStrict

@@ -24,7 +24,7 @@ use Rattle.theorems.specs.Matches.{Matches, MatchedStrict}
 use Rattle.lists.proofs.Counts.{Sent, nowhere, to, total-sent, count, count-one, count-row, row-count-le, row-length, row-cong}
 use Rattle.theorems.proofs.Placements.{offered, collection-count, collection-length, Competing, competes-out, placement-count}
 use Rattle.theorems.proofs.Requests.{pending-priority, unboxed-waits}
-use Rattle.theorems.proofs.Filled.{current-given, box-priority, boxes-placed}
+use Rattle.theorems.proofs.FilledBoxes.{current-given, box-priority, boxes-placed}
 use Rattle.theorems.proofs.Fewest.{fewest}
 use Rattle.lists.proofs.Sorting.{sorted-le, top-of}
 
