@@ -34,12 +34,12 @@ pub record Replaces (s : Controller) (i : ℕ) (r : Source) : Type 0 where
 id-of : (id i : ℕ) → 1 ≤ id → pred id ≡ i → id ≡ suc i
 id-of id i h e = omega arith
 
--- What the box of core d says of its source's record q.
-abbrev Names : Core → Source → Type 0
-Names d q = (q .pending ≡ true) × (q .delivered ≡ true) × (q .priority ≡ d .message .priority)
+-- The source's record q bears the request of core d's box.
+abbrev Bears : Core → Source → Type 0
+Bears d q = (q .pending ≡ true) × (q .delivered ≡ true) × (q .priority ≡ d .message .priority)
 
-renamed : (d : Core) (q r : Source) → Names d q → SameRequest q r → Names d r
-renamed d q r (p, f, e) (p′, f′, e′) = (p′ ∙ p, f′ ∙ f, e′ ∙ e)
+still-bears : (d : Core) (q r : Source) → Bears d q → SameRequest q r → Bears d r
+still-bears d q r (p, f, e) (p′, f′, e′) = (p′ ∙ p, f′ ∙ f, e′ ∙ e)
 
 module _ (s : Controller) (c : Consistent s) (i : ℕ) (i-lt : i < s .n) (r : Source) (fit : Replaces s i r) where
   read : (P : Source → Type 0) (j : ℕ) → (j ≡ i → P r) → P (sourceAt s j) → P (sourceAt (withSource s i r) j)
@@ -48,18 +48,18 @@ module _ (s : Controller) (c : Consistent s) (i : ℕ) (i-lt : i < s .n) (r : So
       read-set P (s .sources) i j r noSource fits same (λ h. old)
 
   -- the box of core k is backed by the records after the write
-  names :
+  bears :
       (k : ℕ) → k < s .m → (coreAt s k) .message .filled ≡ true →
-      Names (coreAt s k) (sourceAt (withSource s i r) (indexOf ((coreAt s k) .message .source)))
-  names k k-lt filled =
+      Bears (coreAt s k) (sourceAt (withSource s i r) (indexOf ((coreAt s k) .message .source)))
+  bears k k-lt filled =
       let d : Core = coreAt s k in
       let j : ℕ = indexOf (d .message .source) in
       let h : Holding s d = c .backed k k-lt filled in
-      let old : Names d (sourceAt s j) = (h .pending, h .delivered, h .same-priority) in
-      read (Names d) j
+      let old : Bears d (sourceAt s j) = (h .pending, h .delivered, h .same-priority) in
+      read (Bears d) j
       (λ e.
       let own : d .message .source .0 ≡ suc i = id-of (d .message .source .0) i (h .some-id) e in
-      renamed d (sourceAt s i) r (rw e at old) (fit .in-box k k-lt (holds-in (suc i) d filled own)))
+      still-bears d (sourceAt s i) r (rw e at old) (fit .in-box k k-lt (holds-in (suc i) d filled own)))
       old
 
   pub withSource-consistent : Consistent (withSource s i r)
@@ -83,13 +83,13 @@ module _ (s : Controller) (c : Consistent s) (i : ℕ) (i-lt : i < s .n) (r : So
         spare-core = c .spare-core;
         backed = λ k h f.
             let old : Holding s (coreAt s k) = c .backed k h f in
-            let named : Names (coreAt s k) (sourceAt (withSource s i r) (indexOf ((coreAt s k) .message .source))) = names k h f in
+            let kept : Bears (coreAt s k) (sourceAt (withSource s i r) (indexOf ((coreAt s k) .message .source))) = bears k h f in
             record {
               some-id = old .some-id;
               id-le = old .id-le;
-              pending = named .0;
-              delivered = named .1;
-              same-priority = named .2;
+              pending = kept .0;
+              delivered = kept .1;
+              same-priority = kept .2;
               above = old .above;
             };
         distinct = c .distinct;
