@@ -57,8 +57,8 @@ module _ (r : Reader) (w : List ℕ) (s : Signal) where
 
 -- the first variable with a code
 module _ (vs : Variables) (code : ℕ) (h : code ≡ 0 → ⊥) where
-  abbrev pub Names : Signal → Type 0
-  Names s = (r : Reader) (w : List ℕ) → r .variables ≡ vs → code ≡ codeOf w → vectorSignal r w ≡ some s
+  abbrev pub IsCodeOf : Signal → Type 0
+  IsCodeOf s = (r : Reader) (w : List ℕ) → r .variables ≡ vs → code ≡ codeOf w → vectorSignal r w ≡ some s
 
   -- the code of a variable, or of another
   has : (s : Signal) → code ≡ (variableOf vs s) .code → (r : Reader) (w : List ℕ) → r .variables ≡ vs → code ≡ codeOf w →
@@ -69,18 +69,18 @@ module _ (vs : Variables) (code : ℕ) (h : code ≡ 0 → ⊥) where
       hasCode r w s ≡ false
   lacks s k r w er ec = has-other r w s (λ e. k (ec ∙ sym e ∙ ap (λ (x : Variables). (variableOf x s) .code) er))
 
-  pub names-cmd : code ≡ vs .cmd .code → Names Cmd
+  pub names-cmd : code ≡ vs .cmd .code → IsCodeOf Cmd
   names-cmd e r w er ec = rw (has Cmd e r w er ec)
 
   module _ (no-cmd : code ≡ vs .cmd .code → ⊥) where
-    pub names-core : code ≡ vs .core .code → Names Core
+    pub names-core : code ≡ vs .core .code → IsCodeOf Core
     names-core e r w er ec = rw (lacks Cmd no-cmd r w er ec, has Core e r w er ec)
 
     module _ (no-core : code ≡ vs .core .code → ⊥) where
-      pub names-arg : code ≡ vs .arg .code → Names Arg
+      pub names-arg : code ≡ vs .arg .code → IsCodeOf Arg
       names-arg e r w er ec = rw (lacks Cmd no-cmd r w er ec, lacks Core no-core r w er ec, has Arg e r w er ec)
 
-      pub names-prio : (code ≡ vs .arg .code → ⊥) → code ≡ vs .prio .code → Names Prio
+      pub names-prio : (code ≡ vs .arg .code → ⊥) → code ≡ vs .prio .code → IsCodeOf Prio
       names-prio no-arg e r w er ec =
           rw (lacks Cmd no-cmd r w er ec, lacks Core no-core r w er ec, lacks Arg no-arg r w er ec, has Prio e r w er ec)
 
