@@ -119,11 +119,11 @@ abbrev verdict : Surveyed → Bool
 verdict v = v .consistent && v .clean && settled v && ltb (v .covered) (v .boxed)
 
 -- the survey says that the state is well formed
-abbrev pub Passed : Surveyed → Type 0
-Passed v =
+abbrev pub SurveyPasses : Surveyed → Type 0
+SurveyPasses v =
     (((v .consistent ≡ true) × (v .clean ≡ true)) × ((v .waiting ≤ v .lowest) × (v .covered ≤ v .lowest))) × (v .covered < v .boxed)
 
-verdict-exact : (v : Surveyed) → Exact (verdict v) (Passed v)
+verdict-exact : (v : Surveyed) → Exact (verdict v) (SurveyPasses v)
 verdict-exact v =
     flag-exact (v .consistent) and
     flag-exact (v .clean) and
@@ -220,5 +220,5 @@ module _ (s : Controller) where
       go true e = ap₂ (λ (q f : Bool). boxesClean s && q && f) quiet-is (frugal-is s (consistent-exact s .0 e))
       go false e = refl
 
-  pub well-formed-exact : {v : Surveyed} → v ≡ surveyOf s → Exact (wellFormed s) (Passed v)
+  pub well-formed-exact : {v : Surveyed} → v ≡ surveyOf s → Exact (wellFormed s) (SurveyPasses v)
   well-formed-exact {v} e = given (verdict-exact v) (well-formed-is ∙ sym (ap verdict e))

@@ -6,12 +6,12 @@ use Rattle.model.specs.WellFormed.{wellFormed}
 use Rattle.layout.specs.Bytes.{stateFrom}
 use Rattle.lists.proofs.Bools.{clash}
 use Rattle.lists.proofs.Exact.{Exact, ltb-exact, refused, agree}
-use Rattle.well_formed.proofs.Verdict.{Passed, well-formed-exact}
+use Rattle.well_formed.proofs.Verdict.{SurveyPasses, well-formed-exact}
 use Rattle.state_test.proofs.well_formed.Statement.{statement}
 use Rattle.state_test.proofs.well_formed.Tie as tie
 
 -- what the definition asks for
-asked : (c : tie.After-survey) → Exact (wellFormed (stateFrom (c .before .before .args .state .now))) (Passed (c .survey .result))
+asked : (c : tie.After-survey) → Exact (wellFormed (stateFrom (c .before .before .args .state .now))) (SurveyPasses (c .survey .result))
 asked c = well-formed-exact (stateFrom (c .before .before .args .state .now)) (c .survey .ensures)
 
 survey-requires : tie.Need-survey-requires
