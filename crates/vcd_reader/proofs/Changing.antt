@@ -42,7 +42,7 @@ use Rattle.vcd_reader.specs.declared.Timed.{Timed}
 use Rattle.vcd_reader.specs.Advances.{Follows}
 use Rattle.vcd_reader.specs.Runs.{wordFrom, timedWith, BitsThere, CodeThere, TimeThere, Skips}
 use Rattle.vcd_reader.specs.Skipping.{changePlace}
-use Rattle.vcd_reader.specs.Changes.{givenWith, bitsVector, placedWith, withVariables, changedTo, CodedVector, VectorThere, Places, QuietTime, withLevel, takenAt, Takes}
+use Rattle.vcd_reader.specs.Changes.{givenWith, bitsVector, placedWith, withVariables, changedTo, CodedVector, VectorThere, Places, QuietTime, withLevel, afterCommand, Takes}
 use Rattle.vcd_reader.proofs.Follows.{follows-then, follows-passes, follows-skips, follows-word, word-within}
 use Rattle.vcd_reader.proofs.Reaching.{word-inside, word-starts, other-byte, bit-range, no-time}
 
@@ -251,7 +251,7 @@ module _ (r : Reader) (i : ℕ) (w : List ℕ) (time : ℕ) (good : r .fault .nu
 
   time-taken :
       r .variables .stb .value .number ≡ 1 → r .stamp .up ≡ false → isReadable r ≡ true → r .taken < 65535 →
-      readTime r (wordAt i w) ≡ readWith (takenAt r time) (strobeOf r)
+      readTime r (wordAt i w) ≡ readWith (afterCommand r time) (strobeOf r)
   unfolding readTime andThen endOpenStamp endStamp openStamp isReadable strobeOf
   time-taken n up readable room =
       rw (opened, known, eq-eqb _ _ n, up, readable, lt-leb 65535 (r .taken) room, eq-eqb _ _ good, e, later-word, et)
@@ -352,7 +352,7 @@ module _ (t : List ℕ) (i : ℕ) (h : i < length t) where
           ∙ time-quiet r i (35 ∷ wordFrom t (i + 1)) (a .time) good is-time (there .time whole) o (q .known whole)
           (q .later whole) (q .quiet whole))
 
-      pub takes-command : Takes r (a .time) → readWith (takenAt r (a .time)) (strobeOf r) ≡ readWord r (wordAt i (wordFrom t i))
+      pub takes-command : Takes r (a .time) → readWith (afterCommand r (a .time)) (strobeOf r) ≡ readWord r (wordAt i (wordFrom t i))
       takes-command k =
           sym
           (ap (λ (w : List ℕ). readWord r (wordAt i w)) (word-first 35 eb (omega arith))

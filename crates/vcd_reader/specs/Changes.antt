@@ -102,11 +102,11 @@ pub record Quiet (t : List ℕ) (from : ℕ) (r : Reader) (p : Passed) : Type 0 
 
 -- ---- the word that gives a command
 
-abbrev pub takenAt : Reader → ℕ → Reader
-takenAt r time = withTime time (withTaken (suc (r .taken)) (withUp true r))
+abbrev pub afterCommand : Reader → ℕ → Reader
+afterCommand r time = withTime time (withTaken (suc (r .taken)) (withUp true r))
 
 pub record Takes (r : Reader) (time : ℕ) : Type 0 where
   pub room : r .taken < 65535
   pub gives :
       r .fault .number ≡ 0 → (i : ℕ) (w : List ℕ) → isTime w ≡ true → time ≡ timeOf w →
-      readTime r (wordAt i w) ≡ readWith (takenAt r time) (strobeOf r)
+      readTime r (wordAt i w) ≡ readWith (afterCommand r time) (strobeOf r)

@@ -7,7 +7,7 @@ ghost use Rattle.recording.specs.declared.Place.the-variants.{Definition};
 ghost use Rattle.recording.specs.Records.{noStrobe};
 ghost use Rattle.vcd_reader.specs.Advances.{advancedWith, Advances};
 ghost use Rattle.vcd_reader.specs.Skipping.{SkipsTo, changePlace};
-ghost use Rattle.vcd_reader.specs.Changes.{standingWith, takenAt, Takes};
+ghost use Rattle.vcd_reader.specs.Changes.{standingWith, afterCommand, Takes};
 use crate::Advanced;
 use crate::Standing;
 use crate::changes;
@@ -85,7 +85,7 @@ fn takes(r: Reader, time: u64) -> bool
 
 fn taken_at(r: Reader, time: u64) -> Reader
     requires { ⌜ r .taken < 65535 ⌝ }
-    ensures { λ s. ⌜ s ≡ takenAt r time ⌝ }
+    ensures { λ s. ⌜ s ≡ afterCommand r time ⌝ }
 {
     let mut next = r;
     next.stamp.opened = true;

@@ -4,7 +4,7 @@ use native.Mathlib.Omega.{arith}
 use Rattle.recording.specs.Records.{readWith}
 use Rattle.recording.specs.Stamps.{strobeOf}
 use Rattle.vcd_reader.specs.Skipping.{changePlace}
-use Rattle.vcd_reader.specs.Changes.{takenAt}
+use Rattle.vcd_reader.specs.Changes.{afterCommand}
 use Rattle.vcd_reader.proofs.Follows.{advances-word, advances-after, advances-quiet}
 use Rattle.vcd_reader.proofs.Changing.{starts-word, first-end, takes-command}
 use borrow.Author.Needs.{needs}
@@ -75,7 +75,7 @@ returns-3 c =
     let ends = first-end t i (inside .if1 .left) 35 (is .if3 .taken) (omega arith) (a .end) (there .end (whole .if4 .taken)) in
     rw (c .advanced-with2 .ensures, made .taken-at .ensures, c .before .strobe .ensures)
     (advances-after t (q .ensures .follows) (inside .if1 .left)
-    (advances-word t i (inside .if1 .left) starts (a .end) ends r (readWith (takenAt r (a .time)) (strobeOf r))
+    (advances-word t i (inside .if1 .left) starts (a .end) ends r (readWith (afterCommand r (a .time)) (strobeOf r))
     (takes-command t i (inside .if1 .left) r place (q .ensures .good) a (is .if3 .taken) there (whole .if4 .taken)
     (took .takes .ensures (made .before .if5 .taken)))))
 
