@@ -27,21 +27,21 @@ number-small (OnSource id Redeliver) = omega arith
 number-small (OnSource id Complete) = omega arith
 
 -- a command is named by its numbers
-pub named : (c : Command) → commandOf (numberOf c) (targetOf c) (levelOf c) ≡ Known c
+pub commandOf-numbers : (c : Command) → commandOf (numberOf c) (targetOf c) (levelOf c) ≡ Known c
 unfolding commandOf
-named (OnSource id (SetSourcePriority p)) = refl
-named (OnSource id Mask) = refl
-named (OnSource id Unmask) = refl
-named (OnCore k (SetCorePriority p)) = refl
-named (OnSource id Trigger) = refl
-named (OnCore k Claim) = refl
-named (OnSource id Redeliver) = refl
-named (OnSource id Complete) = refl
+commandOf-numbers (OnSource id (SetSourcePriority p)) = refl
+commandOf-numbers (OnSource id Mask) = refl
+commandOf-numbers (OnSource id Unmask) = refl
+commandOf-numbers (OnCore k (SetCorePriority p)) = refl
+commandOf-numbers (OnSource id Trigger) = refl
+commandOf-numbers (OnCore k Claim) = refl
+commandOf-numbers (OnSource id Redeliver) = refl
+commandOf-numbers (OnSource id Complete) = refl
 
 read-back : (cs : List Command) → commandsIn (joined commandBytes cs) ≡ cs
 unfolding joined inFives
 read-back [] = refl
-read-back (c ∷ cs) = rw (word-back (targetOf c), word-back (levelOf c), named c, read-back cs)
+read-back (c ∷ cs) = rw (word-back (targetOf c), word-back (levelOf c), commandOf-numbers c, read-back cs)
 
 octets-command : (c : Command) → CommandFits c → Octets (commandBytes c)
 octets-command c f = next {x = numberOf c} (omega (arith, number-small c)) (octets-word (f .target) (octets-word (f .level) none))

@@ -21,7 +21,7 @@ use Rattle.effects.proofs.Kept.{wellFormed-kept}
 use Rattle.theorems.proofs.Refusals.{at-most-eight}
 use Rattle.layout.specs.Statements.{Sized}
 use Rattle.layout.proofs.RoundTrip.{state-read-back, state-encoded}
-use Rattle.layout.proofs.Commands.{named, packed-read}
+use Rattle.layout.proofs.Commands.{commandOf-numbers, packed-read}
 use Rattle.layout.specs.CallStatements.{ExecuteTells, calling, afterCalls, toldByCalls, CallsStrict}
 use Rattle.theorems.proofs.RunStrict.{sized, run-wellFormed, fresh}
 
@@ -57,7 +57,7 @@ called :
     (s : Controller) (c : Command) → Sized s →
     calling (stateBytes s) c ≡ callOf (packed (execute s c)) (stateBytes ((execute s c) .state))
 unfolding executeCall
-called s c z = rw (state-encoded s z .0, named c, state-read-back s z)
+called s c z = rw (state-encoded s z .0, commandOf-numbers c, state-read-back s z)
 
 calls-run :
     (s : Controller) (cs : List Command) → WellFormed s →
