@@ -83,20 +83,29 @@ impl Command {
 
     /// The command as [`crate::bytes::run`] reads it.
     pub fn to_bytes(self) -> [u8; COMMAND_SIZE] {
-        let (number, at, priority) = self.numbers();
-        let ([a, b], [c, d]) = (at.to_le_bytes(), priority.to_le_bytes());
-        [number, a, b, c, d]
+        to_bytes(self.numbers())
     }
 
     /// The command that the bytes encode, if the first is 0 to 7. The priority of a command that has none is not looked at.
     pub fn from_bytes(bytes: [u8; COMMAND_SIZE]) -> Option<Command> {
-        let [number, a, b, c, d] = bytes;
-        Command::from_numbers(
-            number,
-            u16::from_le_bytes([a, b]),
-            u16::from_le_bytes([c, d]),
-        )
+        let (number, at, priority) = from_bytes(bytes);
+        Command::from_numbers(number, at, priority)
     }
+}
+
+/// A call's number, its id or core, and its priority, as the library reads them.
+pub(crate) fn to_bytes((number, at, priority): (u8, u16, u16)) -> [u8; COMMAND_SIZE] {
+    let ([a, b], [c, d]) = (at.to_le_bytes(), priority.to_le_bytes());
+    [number, a, b, c, d]
+}
+
+/// The three numbers that such bytes hold.
+pub(crate) fn from_bytes([number, a, b, c, d]: [u8; COMMAND_SIZE]) -> (u8, u16, u16) {
+    (
+        number,
+        u16::from_le_bytes([a, b]),
+        u16::from_le_bytes([c, d]),
+    )
 }
 
 /// For people, as [`Command::from_str`] reads it: `set core 1 to 0`.

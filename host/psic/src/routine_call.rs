@@ -3,7 +3,7 @@
 use std::fmt;
 use std::str::FromStr;
 
-use crate::command::{number, ParseCommandError, COMMAND_SIZE};
+use crate::command::{from_bytes, number, to_bytes, ParseCommandError, COMMAND_SIZE};
 use crate::records::{CoreId, SourceId};
 
 /// A call of a simulation with its arguments, which may be any numbers: four of the commands by their own numbers, entry and exit. The
@@ -55,18 +55,15 @@ impl RoutineCall {
 
     /// The call as [`crate::raw::simulate`] reads it.
     pub fn to_bytes(self) -> [u8; COMMAND_SIZE] {
-        let (number, at, priority) = self.numbers();
-        let ([a, b], [c, d]) = (at.to_le_bytes(), priority.to_le_bytes());
-        [number, a, b, c, d]
+        to_bytes(self.numbers())
     }
 
     /// The call that the bytes encode, if the first is a call's number. The priority of a call that has none is not looked at.
     pub fn from_bytes(bytes: [u8; COMMAND_SIZE]) -> Option<RoutineCall> {
-        let [number, a, b, c, d] = bytes;
-        let at = u16::from_le_bytes([a, b]);
+        let (number, at, priority) = from_bytes(bytes);
         let (id, core) = (SourceId(at), CoreId(at));
         Some(match number {
-            0 => RoutineCall::SetSourcePriority(id, u16::from_le_bytes([c, d])),
+            0 => RoutineCall::SetSourcePriority(id, priority),
             1 => RoutineCall::Mask(id),
             2 => RoutineCall::Unmask(id),
             4 => RoutineCall::Trigger(id),

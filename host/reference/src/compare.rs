@@ -60,21 +60,25 @@ impl fmt::Display for Difference {
             "seed {}, {}, index {}: {:?}",
             self.seed, self.part, self.index, self.call
         )?;
-        for (name, answer) in [&self.left, &self.right] {
-            writeln!(
-                f,
-                "  {name}: number {}, id {}, cycles {}",
-                answer.number, answer.id, answer.cycles
-            )?;
-        }
-        for field in &self.fields {
-            writeln!(f, "  {field}")?;
-        }
+        write_sides(f, [&self.left, &self.right], &self.fields)?;
         if !self.same_state && self.fields.is_empty() {
             writeln!(f, "  the states differ in a field that isn't listed")?;
         }
         Ok(())
     }
+}
+
+/// Both sides' names and answers, and the fields that differ.
+pub(crate) fn write_sides(
+    f: &mut fmt::Formatter<'_>,
+    sides: [&(String, Answer); 2],
+    fields: &[String],
+) -> fmt::Result {
+    for (name, answer) in sides {
+        let Answer { number, id, cycles } = answer;
+        writeln!(f, "  {name}: number {number}, id {id}, cycles {cycles}")?;
+    }
+    fields.iter().try_for_each(|field| writeln!(f, "  {field}"))
 }
 
 /// Two models and the seed of the workload they are put to.
@@ -89,9 +93,25 @@ pub struct Comparison<'a, L: Model, R: Model> {
 
 /// Where a call stands in the workload.
 #[derive(Clone, Copy)]
-struct Place<'a> {
-    part: &'a str,
-    index: usize,
+pub(crate) struct Place<'a> {
+    pub(crate) part: &'a str,
+    pub(crate) index: usize,
+}
+
+/// No answer to show.
+pub(crate) const NOTHING: Answer = Answer {
+    number: 0,
+    id: 0,
+    cycles: 0,
+};
+
+/// The first answers to two lists that differ, or none to show.
+pub(crate) fn first_apart(left: &Ran, right: &Ran) -> [Answer; 2] {
+    let mut pairs = left.answers.iter().zip(&right.answers);
+    match pairs.find(|(left, right)| left != right) {
+        Some((&left, &right)) => [left, right],
+        None => [NOTHING; 2],
+    }
 }
 
 /// What was handed back by both models: whether it is equal as a whole, and the fields that differ.
@@ -159,11 +179,7 @@ impl<L: Model, R: Model> Comparison<'_, L, R> {
     pub fn makings(&self, random: &mut Random) -> Option<Difference> {
         let part = "makings";
         (0..16).find_map(|index| {
-            // Mostly a little over the largest sizes, now and then any numbers.
-            let (n, m) = match random.below(4) {
-                0 => (random.any(), random.any()),
-                _ => (random.within(0..=130), random.within(0..=34)),
-            };
+            let (n, m) = generate::any_sizes(random);
             self.make(Place { part, index }, n, m)
         })
     }
@@ -286,11 +302,7 @@ impl<L: Model, R: Model> Comparison<'_, L, R> {
         let (mut left, mut right) = (self.left.load(from), self.right.load(from));
         let left_ran = self.left.run_listed(&mut left, list);
         let right_ran = self.right.run_listed(&mut right, list);
-        let mut pairs = left_ran.answers.iter().zip(&right_ran.answers);
-        let last = without_cycles((0, 0));
-        let (&left_answer, &right_answer) = pairs
-            .find(|(left, right)| left != right)
-            .unwrap_or((&last, &last));
+        let [left_answer, right_answer] = first_apart(&left_ran, &right_ran);
         self.difference(
             place,
             || Call::Run(list.to_vec()),
@@ -368,7 +380,7 @@ fn without_cycles((number, id): (u8, u16)) -> Answer {
     Answer {
         number,
         id,
-        cycles: 0,
+        ..NOTHING
     }
 }
 

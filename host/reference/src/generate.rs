@@ -73,15 +73,27 @@ pub fn commands_from(seed: u64, sound: &Controller, length: usize, mix: Mix) -> 
 /// Lists for a sound state, or one made from it: of no command, of one, of two and of 3 to 40, each
 /// once whole, and once with a number above 7 in the place of a command.
 pub fn lists_from(random: &mut Random, sound: &Controller) -> Vec<Vec<Listed>> {
+    let list = |random: &mut Random, length| {
+        let mix = random.pick(&Mix::ALL);
+        let commands = commands_from(random.bits(), sound, length, mix);
+        commands.into_iter().map(Listed::Command).collect()
+    };
+    lists_with(random, list, |random| unreadable(random, sound))
+}
+
+/// Lists of no entry, of one, of two and of 3 to 40, each once whole, and once with an entry that can't be read in the place of one.
+pub(crate) fn lists_with<T: Clone>(
+    random: &mut Random,
+    list: impl Fn(&mut Random, usize) -> Vec<T>,
+    unreadable: impl Fn(&mut Random) -> T,
+) -> Vec<Vec<T>> {
     let many = usize::from(random.within(3..=40));
     let mut lists = Vec::new();
     for length in [0, 1, 2, many] {
-        let mix = random.pick(&Mix::ALL);
-        let commands = commands_from(random.bits(), sound, length, mix);
-        let list: Vec<Listed> = commands.into_iter().map(Listed::Command).collect();
+        let list = list(random, length);
         if let Some(place) = random.pick_if_any(0..length) {
             let mut ended = list.clone();
-            ended[place] = unreadable(random, sound);
+            ended[place] = unreadable(random);
             lists.push(ended);
         }
         lists.push(list);
@@ -114,6 +126,14 @@ pub fn sizes(random: &mut Random) -> (u16, u16) {
         _ => random.within(1..=32),
     };
     (n, m)
+}
+
+/// Sizes in range and out of it: mostly a little over the largest, now and then any numbers.
+pub(crate) fn any_sizes(random: &mut Random) -> (u16, u16) {
+    match random.below(4) {
+        0 => (random.any(), random.any()),
+        _ => (random.within(0..=130), random.within(0..=34)),
+    }
 }
 
 /// One command of each kind, arguments mostly in range for these sizes, which may be broken.

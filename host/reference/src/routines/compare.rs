@@ -5,7 +5,8 @@ use std::fmt;
 use super::damage;
 use super::runs::{self, Mix, Run};
 use super::{violated, Call, Listed, Routines, Simulation};
-use crate::compare::differing_fields;
+use crate::compare::{differing_fields, first_apart, write_sides, Place, NOTHING};
+use crate::generate;
 use crate::model::Ran;
 use crate::random::Random;
 use crate::records::Answer;
@@ -115,16 +116,7 @@ impl fmt::Display for Difference {
             "seed {}, {}, index {}: {:?}",
             self.seed, self.part, self.index, self.put
         )?;
-        for (name, answer) in [&self.left, &self.right] {
-            writeln!(
-                f,
-                "  {name}: number {}, id {}, cycles {}",
-                answer.number, answer.id, answer.cycles
-            )?;
-        }
-        self.fields
-            .iter()
-            .try_for_each(|field| writeln!(f, "  {field}"))
+        write_sides(f, [&self.left, &self.right], &self.fields)
     }
 }
 
@@ -137,20 +129,6 @@ pub struct Comparison<'a, L: Simulator, R: Simulator> {
     /// The seed of the workload.
     pub seed: u64,
 }
-
-/// Where a call stands in the workload.
-#[derive(Clone, Copy)]
-struct Place<'a> {
-    part: &'a str,
-    index: usize,
-}
-
-/// No answer to show.
-const NOTHING: Answer = Answer {
-    number: 0,
-    id: 0,
-    cycles: 0,
-};
 
 impl<L: Simulator, R: Simulator> Comparison<'_, L, R> {
     /// Runs the whole workload that the seed determines: makings, a run of this length from a fresh
@@ -173,10 +151,7 @@ impl<L: Simulator, R: Simulator> Comparison<'_, L, R> {
     pub fn makings(&self, random: &mut Random) -> Option<Difference> {
         let part = "makings";
         (0..8).find_map(|index| {
-            let (n, m) = match random.below(4) {
-                0 => (random.any(), random.any()),
-                _ => (random.within(0..=130), random.within(0..=34)),
-            };
+            let (n, m) = generate::any_sizes(random);
             self.make(Place { part, index }, n, m)
         })
     }
@@ -275,11 +250,7 @@ impl<L: Simulator, R: Simulator> Comparison<'_, L, R> {
             let both = (counts(&left_ran), counts(&right_ran));
             fields.push(format!("calls taken and answers written: {both:?}"));
         }
-        let mut pairs = left_ran.answers.iter().zip(&right_ran.answers);
-        let answers = match pairs.find(|(left, right)| left != right) {
-            Some((&left, &right)) => [left, right],
-            None => [NOTHING; 2],
-        };
+        let answers = first_apart(&left_ran, &right_ran);
         self.difference(place, || Put::List(list.to_vec()), answers, fields)
     }
 

@@ -61,20 +61,12 @@ pub fn calls_from(seed: u64, sound: &Routines, length: usize, mix: Mix) -> Vec<C
 /// Lists for sound routines, or broken ones made from them: of no call, of one, of two and of 3 to
 /// 40, each once whole, and once with a number in the place of a call that names none.
 pub fn lists_from(random: &mut Random, sound: &Routines) -> Vec<Vec<Listed>> {
-    let many = usize::from(random.within(3..=40));
-    let mut lists = Vec::new();
-    for length in [0, 1, 2, many] {
+    let list = |random: &mut Random, length| {
         let mix = random.pick(&Mix::ALL);
         let calls = calls_from(random.bits(), sound, length, mix);
-        let list: Vec<Listed> = calls.into_iter().map(Listed::Call).collect();
-        if let Some(place) = random.pick_if_any(0..length) {
-            let mut ended = list.clone();
-            ended[place] = unreadable(random, sound);
-            lists.push(ended);
-        }
-        lists.push(list);
-    }
-    lists
+        calls.into_iter().map(Listed::Call).collect()
+    };
+    generate::lists_with(random, list, |random| unreadable(random, sound))
 }
 
 /// The numbers of the six calls: the commands' own, and two apart from them.
