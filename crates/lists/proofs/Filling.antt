@@ -1,15 +1,16 @@
 -- A list filled from the front: something is written to one element after another. Assumes nothing.
 --   Filled P Q d size i l          a list of that size: P holds of each of the first i elements, Q of each of the others
 --   filled-none, filled-more       nothing is written; the next element is
---   filled-tabulated, filled-map   all are written: the list of a function's values; a list changed element by element
+--   filled-tabulated               all are written: the list of a function's values
+--   getD-zeros, filled-zeros       a row of zeros, also past its end; all are written by 0
 --   Filling f d l size i ks        a row of numbers filled so, one for each element of l (`FilledBy`)
 --   filling-none, filling-more     the same of such a row
 --   filled-written                 an element and its number written at the same index
-use Prim.Native.Nat.{ℕ, _+_, _<_, _≤_}
-use mathlib.Core.Path.{_≡_, sym, _∙_}
+use Prim.Native.Nat.{ℕ, zero, suc, _+_, _<_, _≤_}
+use mathlib.Core.Path.{_≡_, refl, sym, _∙_}
 use mathlib.Core.List.{List}
 use lib.ListN.{length, getD, set, replicate, length-replicate, length-set}
-use lib.Seq.{getD-set-same, getD-set-other}
+use lib.Seq.{getD-set-same, getD-set-other, ext-getD}
 use native.Mathlib.Omega.{arith}
 use native.Mathlib.Decide.{ℕ-discrete}
 use borrow.Author.Count.{below-more}
@@ -51,6 +52,16 @@ module _ {A : Type 0} (d : A) where
   pub filled-tabulated :
       (f : ℕ → A) {size i : ℕ} {l : List A} → Filled (ValueOf f) Anything d size i l → size ≤ i → l ≡ tabulated size f
   filled-tabulated f {size} {i} {l} r h = sym (tabulated-all size f l d (r .whole) (λ j p. sym (r .filled j (omega arith))))
+
+pub getD-zeros : (n i : ℕ) → getD {A = ℕ} (replicate n 0) i 0 ≡ 0
+getD-zeros zero i = refl
+getD-zeros (suc n) zero = refl
+getD-zeros (suc n) (suc i) = getD-zeros n i
+
+pub filled-zeros : {size i : ℕ} {l : List ℕ} → Filled (ValueOf (λ j. 0)) Anything 0 size i l → size ≤ i → l ≡ replicate size 0
+filled-zeros {size} {i} {l} r h =
+    ext-getD 0 l (replicate size 0) (r .whole ∙ sym (length-replicate {A = ℕ} size 0))
+    (λ j k. r .filled j (omega (arith, k, r .whole)) ∙ sym (getD-zeros size j))
 
 -- ---- a row of numbers
 

@@ -1,4 +1,4 @@
--- Records of one length in a row of bytes, and the list of a function's values. Assumes nothing.
+-- Records of one length in a row of bytes, rows of one width joined, and the list of a function's values. Assumes nothing.
 use Prim.Native.Nat.{ℕ, zero, suc, _+_, _*_, _<_}
 use native.Mathlib.Nat.{not-suc-le-zero, le-of-suc-le-suc, mul-zero, mul-suc, add-comm}
 use native.Mathlib.Decide.{decLt}
@@ -7,7 +7,7 @@ use mathlib.Core.List.{List, [], _∷_, _++_, append-nil, append-assoc}
 use native.Mathlib.Omega.{arith}
 use native.Mathlib.Numerals.{add-one}
 use lib.ListN.{length, getD, take, drop, length-append, List·getD-append}
-use lib.Seq.{take-add, drop-drop, drop-append-add, getD-at, ext-getD}
+use lib.Seq.{take-add, drop-drop, drop-append-add, getD-at, getD-append-add, ext-getD}
 use Rattle.lists.specs.Rows.{joined, tabulated}
 
 -- ---- the first records of a row
@@ -58,6 +58,24 @@ module _ {A : Type 0} (f : A → List ℕ) (w : ℕ) (size : (x : A) → length 
       (b : List ℕ) (from : ℕ) (l : List A) (rest : List ℕ) (i : ℕ) (d : A) → drop from b ≡ joined f l ++ rest → i < length l →
       drop (from + w * i) b ≡ f (getD l i d) ++ (joined f (drop (suc i) l) ++ rest)
   record-at b from l rest i d e h = sym (drop-drop (w * i) from b) ∙ ap (drop (w * i)) e ∙ drop-joined l rest i d h
+
+-- ---- rows of one width, joined
+
+-- a number stands behind the rows before its own
+pub getD-joined :
+    (w : ℕ) (t : List (List ℕ)) → ((r : ℕ) → r < length t → length (getD t r []) ≡ w) → (r c : ℕ) → r < length t → c < w →
+    getD (joined (λ (l : List ℕ). l) t) (w * r + c) 0 ≡ getD (getD t r []) c 0
+unfolding joined
+getD-joined w [] wide r c r-lt c-lt = absurd (omega arith)
+getD-joined w (x ∷ t) wide zero c r-lt c-lt =
+    let first : w * 0 + c ≡ c = omega arith in
+    let fits : c < length x = omega (arith, wide 0 r-lt) in
+    rw first (List·getD-append x (joined (λ (l : List ℕ). l) t) 0 c fits)
+getD-joined w (x ∷ t) wide (suc r) c r-lt c-lt =
+    let behind : w * suc r + c ≡ length x + (w * r + c) = rw (wide 0 (omega arith), mul-suc w r) (omega arith) in
+    rw behind
+    (getD-append-add x (joined (λ (l : List ℕ). l) t) (w * r + c) 0 ∙
+    getD-joined w t (λ i l. wide (suc i) (omega (arith, l))) r c (omega (arith, r-lt)) c-lt)
 
 -- ---- the list of a function's values
 

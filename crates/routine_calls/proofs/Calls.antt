@@ -1,18 +1,15 @@
 -- What each call answers and writes, from what the functions that it calls hand back. Assumes nothing.
---   all-clear                                a row of zeros
 --   bad-state, bad-active, bad-holder        a length that doesn't fit
 --   make-unfit, make-refused, make-done      `makeRoutinesCall`
 --   call-unread, call-went                   `routineCall`
-use Prim.Native.Nat.{ℕ, _+_, _*_, _≤_}
-use mathlib.Core.Path.{_≡_, refl, sym, _∙_, subst}
+use Prim.Native.Nat.{ℕ, _+_, _*_}
+use mathlib.Core.Path.{_≡_, refl, _∙_, subst}
 use mathlib.Core.List.{List}
 use mathlib.Core.Bool.{Bool, true, false, and-false}
-use lib.ListN.{length, replicate, length-replicate}
-use lib.Seq.{ext-getD}
+use lib.ListN.{length, replicate}
 use native.Mathlib.Omega.{arith}
 use borrow.Author.Tests.{eq-eqb, ne-eqb}
 use Rattle.lists.proofs.Bools.{and-in}
-use Rattle.lists.proofs.Filling.{Filled, Anything, ValueOf}
 use Rattle.model.specs.declared.Answer.{Answer}
 use Rattle.model.specs.Records.{maxSources, maxCores}
 use Rattle.model.specs.Commands.{make}
@@ -21,15 +18,8 @@ use Rattle.routines.specs.declared.Routines.{Routines}
 use Rattle.routines.specs.declared.RoutineCall.{RoutineCall}
 use Rattle.routines.specs.Routines.{callRoutine}
 use Rattle.routines.specs.Calls.{routinesIn, isSimulation, packedCall, DoesCall, fitsMake, makeRoutinesCall, routineCall}
-use Rattle.routine_laws.proofs.Strict.{zeros}
 use Rattle.routine_steps.specs.declared.Stepped.{Stepped}
 use Rattle.routine_steps.specs.Simulated.{takenFrom, Says, Went}
-
--- a row of zeros
-pub all-clear : {n i : ℕ} {l : List ℕ} → Filled (ValueOf (λ j. 0)) Anything 0 n i l → n ≤ i → l ≡ replicate n 0
-all-clear {n} {i} {l} f h =
-    ext-getD 0 l (replicate n 0) (f .whole ∙ sym (length-replicate {A = ℕ} n 0))
-    (λ j k. f .filled j (omega (arith, k, f .whole)) ∙ sym (zeros n j))
 
 module _ (b active holder : List ℕ) where
   -- ---- making

@@ -2,17 +2,17 @@
 --   routinesMachine    the calls of a simulation with its table, as a machine that answers each by five bytes
 --   cell-in-words      a cell of a table, in its words
 --   events-read        the events read from the answers' bytes are those of the calls
-use Prim.Native.Nat.{ℕ, zero, suc, _+_, _*_, _<_, _≤_}
+use Prim.Native.Nat.{ℕ, _+_, _*_, _<_, _≤_}
 use mathlib.Core.Path.{_≡_, refl, sym, _∙_, ap, subst}
 use mathlib.Core.Logic.{_≢_}
 use mathlib.Core.List.{List, [], _∷_, _++_}
 use mathlib.Core.Bool.{true}
 use native.Mathlib.Omega.{arith}
-use native.Mathlib.Nat.{mul-suc}
-use lib.ListN.{length, getD, drop, replicate, length-replicate, List·getD-append}
-use lib.Seq.{sets, getD-append-add}
+use lib.ListN.{length, getD, drop, replicate, length-replicate}
+use lib.Seq.{sets}
 use Rattle.lists.specs.Rows.{joined, tabulated}
 use Rattle.lists.proofs.Bools.{Flag, on, off, flag, and-l, and-in}
+use Rattle.lists.proofs.Rows.{getD-joined}
 use borrow.Author.Tests.{eq-eqb}
 use Rattle.model.specs.Records.{maxCores}
 use Rattle.model.specs.Statements.{InRange}
@@ -26,7 +26,7 @@ use Rattle.layout.proofs.Lists.{answers-fit}
 use Rattle.well_formed.proofs.Reset.{makes-exactly}
 use Rattle.routines.specs.declared.Routines.{Routines}
 use Rattle.routines.specs.declared.RoutineCall.{RoutineCall}
-use Rattle.routines.specs.Routines.{makeRoutines, freshRoutines, SoundRoutines, callRefusal, acceptedCall, callRoutine, Handovers, rowAt, cellAt, noHandovers, tableAfter, runRoutines, runTable}
+use Rattle.routines.specs.Routines.{makeRoutines, freshRoutines, SoundRoutines, callRefusal, acceptedCall, callRoutine, Handovers, cellAt, noHandovers, tableAfter, runRoutines, runTable}
 use Rattle.routines.specs.History.{Event, eventOf, historyAfter}
 use Rattle.routines.specs.Calls.{oneCall, callOf, callsIn, routinesIn, isSimulation, tableSize, tableIn, tableWords, packedCall, memoryWith, memoryOf, fitsMake, makeRoutinesCall, calledOn, routineCall, simulateCallOf, fitsSimulate, callAnswers, callAnswerBytes, simulated, simulateCall}
 use Rattle.routines.specs.Statements.{NoneFilled, StrictlyRun}
@@ -89,25 +89,11 @@ unfolding tableIn tabulated
 blank-table = refl
 
 -- a cell stands behind the rows before its own
-in-row :
-    (w : ℕ) (t : Handovers) → ((r : ℕ) → r < length t → length (rowAt t r) ≡ w) → (r c : ℕ) → r < length t → c < w →
-    getD (tableWords t) (w * r + c) 0 ≡ cellAt t r c
-unfolding joined
-in-row w [] wide r c r-lt c-lt = absurd (omega arith)
-in-row w (x ∷ t) wide zero c r-lt c-lt =
-    let first : w * 0 + c ≡ c = omega arith in
-    let fits : c < length x = omega (arith, wide 0 r-lt) in
-    rw first (List·getD-append x (tableWords t) 0 c fits)
-in-row w (x ∷ t) wide (suc r) c r-lt c-lt =
-    let behind : w * suc r + c ≡ length x + (w * r + c) = rw (wide 0 (omega arith), mul-suc w r) (omega arith) in
-    rw behind
-    (getD-append-add x (tableWords t) (w * r + c) 0 ∙ in-row w t (λ i l. wide (suc i) (omega (arith, l))) r c (omega (arith, r-lt)) c-lt)
-
 cell-in-words :
     (t : Handovers) → Whole t → (r c : ℕ) → r < maxCores → c < maxCores →
     getD (tableWords t) (maxCores * r + c) 0 ≡ cellAt t r c
 cell-in-words t whole r c r-lt c-lt =
-    in-row maxCores t (λ i l. whole .columns i (omega (arith, l, whole .rows))) r c (omega (arith, r-lt, whole .rows)) c-lt
+    getD-joined maxCores t (λ i l. whole .columns i (omega (arith, l, whole .rows))) r c (omega (arith, r-lt, whole .rows)) c-lt
 
 -- ---- refused calls
 

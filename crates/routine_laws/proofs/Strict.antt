@@ -1,12 +1,12 @@
 -- A fresh simulation is sound (`FreshSound`), and both clauses hold after every run from it (`EveryRunStrict`). Assumes nothing.
---   zeros            nothing is active and nothing was held
 --   sound-strict     both clauses of a sound simulation with no box filled: the current priorities are the configured ones
-use Prim.Native.Nat.{ℕ, zero, suc, _<_, _≤_}
-use mathlib.Core.Path.{_≡_, refl, ap}
+use Prim.Native.Nat.{ℕ, _<_, _≤_}
+use mathlib.Core.Path.{_≡_, ap}
 use mathlib.Core.Bool.{true, false}
-use lib.ListN.{getD, replicate, length-replicate}
+use lib.ListN.{length-replicate}
 use native.Mathlib.Omega.{arith}
 use Rattle.lists.proofs.Bools.{and-l, clash, refuted}
+use Rattle.lists.proofs.Filling.{getD-zeros}
 use Rattle.model.specs.declared.Answer.{Answer}
 use Rattle.model.specs.declared.Source.{Source}
 use Rattle.model.specs.declared.Core.{Core}
@@ -21,11 +21,6 @@ use Rattle.routines.specs.Statements.{FreshSound, StrictlyRun, NoneFilled, Ever
 use Rattle.routine_laws.proofs.Standing.{running, idle-at-zero}
 use Rattle.routine_laws.proofs.Kept.{run-sound}
 
-pub zeros : (n i : ℕ) → getD {A = ℕ} (replicate n 0) i 0 ≡ 0
-zeros zero i = refl
-zeros (suc n) zero = refl
-zeros (suc n) (suc i) = zeros n i
-
 reset-sound : (n m : ℕ) → InRange n m → SoundRoutines (idleBeside (reset n m))
 reset-sound n m range =
     let unclaimed : (i : ℕ) → i < n → claimed (reset n m) i ≡ false = λ i h.
@@ -39,8 +34,8 @@ reset-sound n m range =
       at-its-priority = λ i k r. clash (r .is-claimed) (unclaimed i (r .source-in));
       last-held-there = λ i k r. clash (r .is-claimed) (unclaimed i (r .source-in));
       others-idle = λ k h apart.
-          record { none-active = zeros maxCores k; at-zero = ap (λ (c : Core). c .configured) (core-reset n m k) };
-      holders-inside = λ i h. rw (zeros maxSources i) (omega arith);
+          record { none-active = getD-zeros maxCores k; at-zero = ap (λ (c : Core). c .configured) (core-reset n m k) };
+      holders-inside = λ i h. rw (getD-zeros maxSources i) (omega arith);
     }
 
 pub fresh-is : (n m : ℕ) → InRange n m → freshRoutines n m ≡ idleBeside (reset n m)

@@ -11,6 +11,7 @@ use lib.Dec.{eqb}
 use lib.ListN.{length, getD, set, replicate, length-replicate, getD-replicate}
 use native.Mathlib.Omega.{arith}
 use borrow.Author.Tests.{eq-eqb, ne-eqb}
+use Rattle.lists.proofs.Filling.{getD-zeros}
 use Rattle.lists.proofs.Writes.{read-written}
 use Rattle.model.specs.declared.SourceId.{SourceId}
 use Rattle.model.specs.declared.CoreId.{CoreId}
@@ -30,7 +31,7 @@ use Rattle.routines.specs.Statements.{TableIsHistory, DiagonalZero}
 use Rattle.routine_laws.proofs.Answered.{by-call}
 use Rattle.routine_laws.proofs.Standing.{sound-accepted, enter-checked, command-accepted}
 use Rattle.routine_laws.proofs.EntryKept.{claim-id}
-use Rattle.routine_laws.proofs.Strict.{zeros, fresh-is}
+use Rattle.routine_laws.proofs.Strict.{fresh-is}
 use Rattle.routine_laws.proofs.Cells.{Whole, counts, cell-counted, whole-counted, one-more-held}
 
 pub record Tallied (s : Routines) (t : Handovers) (h : List Event) : Type 0 where
@@ -189,7 +190,7 @@ run-tallied (call ∷ cs) s t h x =
 -- the cells of n rows of zeros, and what is read past them
 blank : (n k r c : ℕ) → getD (getD (replicate n (replicate {A = ℕ} k 0)) r []) c 0 ≡ 0
 blank zero k r c = refl
-blank (suc n) k zero c = zeros k c
+blank (suc n) k zero c = getD-zeros k c
 blank (suc n) k (suc r) c = blank n k r c
 
 fresh-tallied : (n m : ℕ) → Tallied (idleBeside (reset n m)) noHandovers []
@@ -201,7 +202,7 @@ fresh-tallied n m =
             rows = length-replicate maxCores (replicate {A = ℕ} maxCores 0);
             columns = λ r l. rw (getD-replicate maxCores r (replicate {A = ℕ} maxCores 0) [] l) (length-replicate {A = ℕ} maxCores 0);
           };
-      same-holder = λ i l. zeros maxSources i;
+      same-holder = λ i l. getD-zeros maxSources i;
       cells = λ r c. blank maxCores maxCores r c;
     }
 

@@ -3,8 +3,7 @@ use Prim.Native.Nat.{_-_, _≤_}
 use mathlib.Core.Path.{refl}
 use lib.ListN.{length}
 use native.Mathlib.Omega.{arith}
-use Rattle.lists.proofs.Filling.{Filled, Anything, ValueOf, filled-none, filled-more}
-use Rattle.routine_calls.proofs.Calls.{all-clear}
+use Rattle.lists.proofs.Filling.{Filled, Anything, ValueOf, filled-none, filled-more, filled-zeros}
 use Rattle.routine_calls.proofs.clear.Statement.{statement}
 use Rattle.routine_calls.proofs.clear.Tie as tie
 
@@ -38,7 +37,7 @@ same-length : tie.Need-same-length Inv-loop μ-loop
 same-length c = c .before .loop .inv .0 .whole
 
 returns : tie.Need-returns Inv-loop μ-loop
-returns c = all-clear (c .before .loop .inv .0) (omega (arith, c .before .loop .inv .0 .whole))
+returns c = filled-zeros (c .before .loop .inv .0) (omega (arith, c .before .loop .inv .0 .whole))
 
 pub clear-spec : {M : Type 1} → statement M
 clear-spec =
