@@ -1,4 +1,5 @@
 -- What is held after each store: bytes and numbers stay those of a state. Assumes nothing.
+--   held-first                        a host's bytes hold the state that they encode
 --   held-back, held-here              the state that is held is the one that is read
 --   held-source, held-core            one record stored, with its number
 --   read-source, read-core            one record read
@@ -20,10 +21,17 @@ use Rattle.model.specs.Records.{maxSources, maxCores, noSource, noCore, sourceI
 use Rattle.model.specs.Settling.{putBack, retract, deliver}
 use Rattle.lists.proofs.Filling.{filled-written}
 use Rattle.arbitration.specs.Places.{keyAt, rankAt}
-use Rattle.layout.specs.Bytes.{sourceBytes, coreBytes, stateSize, sourceFrom, coreFrom, stateFrom}
+use Rattle.layout.specs.Bytes.{sourceBytes, coreBytes, stateSize, isState, sourceFrom, coreFrom, stateFrom}
+use Rattle.layout.specs.Statements.{AreBytes}
 use Rattle.layout.proofs.InPlace.{source-in-place, core-in-place, source-stored, core-stored}
-use Rattle.layout.proofs.RoundTrip.{state-length, state-read-back}
-use Rattle.in_place.specs.Held.{sourcePlace, corePlace, Held, NamesSource, PutsBack}
+use Rattle.layout.proofs.Octets.{bytes-fit}
+use Rattle.layout.proofs.RoundTrip.{state-length, state-read-back, bytes-written-back}
+use Rattle.in_place.specs.Held.{sourcePlace, corePlace, Numbered, Held, NamesSource, PutsBack}
+
+pub held-first :
+    {b keys ranks : List ℕ} → isState b ≡ true → AreBytes b → Numbered (stateFrom b) keys ranks → Held (stateFrom b) b keys ranks
+held-first {b} encodes are numbered =
+    record { bytes-are = sym (bytes-written-back b are encodes); sized = bytes-fit b are .0; numbered = numbered }
 
 module _ {s : Controller} {b keys ranks : List ℕ} (h : Held s b keys ranks) where
   -- the state that is held is the one that is read

@@ -11,10 +11,11 @@ use lib.ListN.{length}
 use native.Mathlib.Omega.{arith}
 use Rattle.lists.proofs.Bools.{clash}
 use Rattle.model.specs.Records.{maxSources, maxCores}
-use Rattle.layout.specs.Bytes.{stateSize, stateBytes, stateFrom}
-use Rattle.layout.specs.Statements.{Sized}
-use Rattle.in_place.specs.Held.{Numbered}
-use Rattle.in_place.proofs.Stored.{held-back, held-here, held-length}
+use Rattle.layout.specs.Bytes.{stateBytes, isState, stateFrom}
+use Rattle.layout.specs.Statements.{AreBytes}
+use Rattle.layout.proofs.RoundTrip.{state-size, bytes-written-back}
+use Rattle.in_place.specs.Held.{Numbered, Held}
+use Rattle.in_place.proofs.Stored.{held-first, held-back, held-here, held-length}
 use Rattle.routines.specs.declared.Routines.{Routines}
 use Rattle.routines.specs.declared.RoutineCall.{RoutineCall}
 use Rattle.routines.specs.Routines.{soundRoutines, SoundRoutines, callRefusal, callRoutine, refusedCall}
@@ -28,23 +29,24 @@ use Rattle.routine_steps.proofs.Done.{Answers, none-taken}
 
 -- ---- before the first call
 
-module _ {b active holder keys ranks : List ℕ} (size : length b ≡ stateSize) (al : length active ≡ maxCores)
-    (hl : length holder ≡ maxSources) (whole : b ≡ stateBytes (stateFrom b)) {sound : Bool}
-    (tested : sound ≡ soundRoutines (routinesIn b active holder)) where
-  pub begun-unsound : sound ≡ false → Running sound b active holder keys ranks
-  begun-unsound e =
-      record { size = size; active-length = al; holder-length = hl; whole = whole; tested = tested; held = λ f. clash f e }
-
-  pub begun-sound : Sized (stateFrom b) → Numbered (stateFrom b) keys ranks → Running sound b active holder keys ranks
-  begun-sound sized numbered =
+module _ {b active holder keys ranks : List ℕ} (encodes : isState b ≡ true) (al : length active ≡ maxCores)
+    (hl : length holder ≡ maxSources) (are : AreBytes b) {sound : Bool} (tested : sound ≡ soundRoutines (routinesIn b active holder)) where
+  begun : (sound ≡ true → Held (stateFrom b) b keys ranks) → Running sound b active holder keys ranks
+  begun held =
       record {
-        size = size;
+        size = state-size b encodes;
         active-length = al;
         holder-length = hl;
-        whole = whole;
+        whole = sym (bytes-written-back b are encodes);
         tested = tested;
-        held = λ f. record { bytes-are = whole; sized = sized; numbered = numbered };
+        held = held;
       }
+
+  pub begun-unsound : sound ≡ false → Running sound b active holder keys ranks
+  begun-unsound e = begun (λ f. clash f e)
+
+  pub begun-sound : Numbered (stateFrom b) keys ranks → Running sound b active holder keys ranks
+  begun-sound numbered = begun (λ f. held-first encodes are numbered)
 
 -- ---- one call more
 

@@ -16,25 +16,26 @@ use Rattle.well_formed.proofs.Test.{wellFormed-in, wellFormed-out}
 use Rattle.effects.proofs.Answers.{at-state}
 use Rattle.effects.proofs.Kept.{wellFormed-kept}
 use Rattle.layout.specs.Bytes.{stateBytes, isState, stateFrom}
-use Rattle.layout.specs.Statements.{Sized}
-use Rattle.layout.proofs.RoundTrip.{state-size}
+use Rattle.layout.specs.Statements.{AreBytes}
+use Rattle.layout.proofs.RoundTrip.{state-size, bytes-written-back}
 use Rattle.in_place.specs.declared.Outcome.{Outcome}
 use Rattle.in_place.specs.Held.{Numbered, Held}
 use Rattle.in_place.specs.Steps.{Says, Ready, Executed}
-use Rattle.in_place.proofs.Stored.{held-back, held-here, held-length}
+use Rattle.in_place.proofs.Stored.{held-first, held-back, held-here, held-length}
 use Rattle.steps.specs.Going.{Going, Went}
 
 -- ---- before the first command
 
-module _ {b keys ranks : List ℕ} (encodes : isState b ≡ true) (whole : b ≡ stateBytes (stateFrom b)) {sound : Bool}
+module _ {b keys ranks : List ℕ} (encodes : isState b ≡ true) (are : AreBytes b) {sound : Bool}
     (tested : sound ≡ wellFormed (stateFrom b)) where
-  pub begun-unsound : sound ≡ false → Going sound b keys ranks
-  begun-unsound e = record { size = state-size b encodes; whole = whole; tested = tested; held = λ f. clash f e }
+  begun : (sound ≡ true → Held (stateFrom b) b keys ranks) → Going sound b keys ranks
+  begun held = record { size = state-size b encodes; whole = sym (bytes-written-back b are encodes); tested = tested; held = held }
 
-  pub begun-sound : Sized (stateFrom b) → Numbered (stateFrom b) keys ranks → Going sound b keys ranks
-  begun-sound sized numbered =
-      let held : Held (stateFrom b) b keys ranks = record { bytes-are = whole; sized = sized; numbered = numbered } in
-      record { size = state-size b encodes; whole = whole; tested = tested; held = λ f. held }
+  pub begun-unsound : sound ≡ false → Going sound b keys ranks
+  begun-unsound e = begun (λ f. clash f e)
+
+  pub begun-sound : Numbered (stateFrom b) keys ranks → Going sound b keys ranks
+  begun-sound numbered = begun (λ f. held-first encodes are numbered)
 
 -- ---- one command more
 

@@ -1,10 +1,8 @@
 -- `routine_steps::begin` meets its contract: the test, and then the numbers. Assumes nothing.
-use mathlib.Core.Path.{_≡_, sym, _∙_}
+use mathlib.Core.Path.{sym, _∙_}
 use native.Mathlib.Omega.{arith}
-use Rattle.layout.specs.Bytes.{stateBytes, stateFrom}
 use Rattle.layout.specs.Statements.{AreBytes}
-use Rattle.layout.proofs.RoundTrip.{state-size, bytes-written-back}
-use Rattle.layout.proofs.Octets.{bytes-fit}
+use Rattle.layout.proofs.RoundTrip.{state-size}
 use Rattle.routines.specs.Calls.{routinesIn}
 use Rattle.routine_laws.proofs.Test.{routines-test-exact}
 use Rattle.routine_steps.proofs.Gone.{begun-sound, begun-unsound}
@@ -13,10 +11,6 @@ use Rattle.routine_steps.proofs.begin.Tie as tie
 
 octets : (c : tie.After-sound) → AreBytes (c .before .before .before .before .args .state .now)
 octets c i h = omega (arith, c .before .before .before .shared-slice-known .given i)
-
--- the bytes are those of the state that they encode
-whole : (c : tie.After-sound) → let b = c .before .before .before .before .args .state .now in b ≡ stateBytes (stateFrom b)
-whole c = let start = c .before .before .before .before in sym (bytes-written-back (start .args .state .now) (octets c) (start .pre .0))
 
 sound-requires : tie.Need-sound-requires
 sound-requires c κs =
@@ -37,15 +31,13 @@ returns : tie.Need-returns
 returns c =
     let tested = c .before .before .before .before in
     let start = tested .before .before .before .before in
-    begun-sound (state-size (start .args .state .now) (start .pre .0)) (start .pre .1) (start .pre .2) (whole tested)
-    (tested .sound .ensures) (bytes-fit (start .args .state .now) (octets tested) .0) (c .number-all .ensures)
+    begun-sound (start .pre .0) (start .pre .1) (start .pre .2) (octets tested) (tested .sound .ensures) (c .number-all .ensures)
 
 returns-2 : tie.Need-returns-2
 returns-2 c =
     let tested = c .before in
     let start = tested .before .before .before .before in
-    begun-unsound (state-size (start .args .state .now) (start .pre .0)) (start .pre .1) (start .pre .2) (whole tested)
-    (tested .sound .ensures) (c .if1 .left)
+    begun-unsound (start .pre .0) (start .pre .1) (start .pre .2) (octets tested) (tested .sound .ensures) (c .if1 .left)
 
 pub begin-spec : {M : Type 1} → statement M
 begin-spec = tie.close (tie.spec sound-requires number-all-requires returns returns-2)

@@ -1,23 +1,16 @@
 -- `steps::begin` meets its contract: the test, and then the numbers. Assumes nothing.
-use mathlib.Core.Path.{_≡_, sym, _∙_}
+use mathlib.Core.Path.{sym, _∙_}
 use native.Mathlib.Omega.{arith}
-use Rattle.layout.specs.Bytes.{stateBytes, stateFrom}
-use Rattle.layout.specs.Statements.{Sized}
-use Rattle.layout.proofs.RoundTrip.{state-size, bytes-written-back}
-use Rattle.layout.proofs.Octets.{bytes-fit}
+use Rattle.layout.specs.Bytes.{stateFrom}
+use Rattle.layout.specs.Statements.{AreBytes}
+use Rattle.layout.proofs.RoundTrip.{state-size}
 use Rattle.well_formed.proofs.Test.{wellFormed-out}
 use Rattle.steps.proofs.Gone.{begun-sound, begun-unsound}
 use Rattle.steps.proofs.begin.Statement.{statement}
 use Rattle.steps.proofs.begin.Tie as tie
 
--- the bytes are those of the state that they encode
-whole : (c : tie.After-well-formed) → let b = c .before .before .args .state .now in b ≡ stateBytes (stateFrom b)
-whole c =
-    let start = c .before .before in
-    sym (bytes-written-back (start .args .state .now) (λ i h. omega (arith, c .before .shared-slice-known .given i)) (start .pre .0))
-
-sized : (c : tie.After-well-formed) → Sized (stateFrom (c .before .before .args .state .now))
-sized c = bytes-fit (c .before .before .args .state .now) (λ i h. omega (arith, c .before .shared-slice-known .given i)) .0
+octets : (c : tie.After-well-formed) → AreBytes (c .before .before .args .state .now)
+octets c i h = omega (arith, c .before .shared-slice-known .given i)
 
 well-formed-requires : tie.Need-well-formed-requires
 well-formed-requires c κs = state-size (c .before .args .state .now) (c .before .pre .0)
@@ -33,10 +26,12 @@ number-all-requires c κs =
 returns : tie.Need-returns
 returns c =
     let tested = c .before .before .before .before in
-    begun-sound (tested .before .before .pre .0) (whole tested) (tested .well-formed .ensures) (sized tested) (c .number-all .ensures)
+    begun-sound (tested .before .before .pre .0) (octets tested) (tested .well-formed .ensures) (c .number-all .ensures)
 
 returns-2 : tie.Need-returns-2
-returns-2 c = begun-unsound (c .before .before .before .pre .0) (whole (c .before)) (c .before .well-formed .ensures) (c .if1 .left)
+returns-2 c =
+    let tested = c .before in
+    begun-unsound (tested .before .before .pre .0) (octets tested) (tested .well-formed .ensures) (c .if1 .left)
 
 pub begin-spec : {M : Type 1} → statement M
 begin-spec = tie.close (tie.spec well-formed-requires number-all-requires returns returns-2)
