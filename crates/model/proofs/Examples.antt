@@ -23,7 +23,11 @@ use Rattle.model.specs.Cases.{numbered, start, setUp, answersAs, passes,
 
 -- To open this name is to open every definition that a run computes with.
 unfoldable pub computed : Controller → List Command → Controller
-unfolding leadingZeros floorLog2 priorityWidth topPriority every some walk tree boxed highest least leastPriority sizesInRange listsWhole sourceInRange isEmptyBox coreInRange isResetSource isResetCore backedBy sourcesInRange coresInRange sparesReset boxesBacked boxesDistinct boxesClean candidatesSettled coveredSettled frugal consistent quiet wellFormed retract deliver firstDirty arbitrate next cycle settle countOf cyclesOf effect refusalOf refusal answeredId settled refused execute runBy gather numbered start answersAs passes allPass
+unfolding leadingZeros floorLog2 priorityWidth topPriority every some walk tree boxed highest least leastPriority sizesInRange
+    listsWhole sourceInRange isEmptyBox coreInRange isResetSource isResetCore backedBy sourcesInRange coresInRange sparesReset
+    boxesBacked boxesDistinct boxesClean candidatesSettled coveredSettled frugal consistent quiet wellFormed retract deliver firstDirty
+    arbitrate next cycle settle countOf cyclesOf effect refusalOf refusal answeredId settled refused execute runBy gather numbered start
+    answersAs passes allPass
 computed = run
 
 pub marked-pass : allPass marked ≡ true

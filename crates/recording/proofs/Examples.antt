@@ -18,7 +18,9 @@ use Rattle.recording.specs.Texts.{held, allHeldAt, casesOf}
 
 -- To open this name is to open every definition that a reading computes with.
 unfoldable pub computed : List ℕ → Reading
-unfolding commandOf cut decimal codeOf valueOf vectorOf declares isReadable strobeOf commandsOf endStamp endOpenStamp readDefinition readWidth readCode readName readChange readVectorCode openStamp andThen readTime readBody readBlock readAt readWord finish advance readWords finished answered reading readingFrom
+unfolding commandOf cut decimal codeOf valueOf vectorOf declares isReadable strobeOf commandsOf endStamp endOpenStamp readDefinition
+    readWidth readCode readName readChange readVectorCode openStamp andThen readTime readBody readBlock readAt readWord finish advance
+    readWords finished answered reading readingFrom
 computed = reading
 
 pub wholes-say : saidBy reading wholes ≡ said wholes

@@ -12,7 +12,8 @@ use Rattle.routines.specs.Cases.{begun, passes, allPass, runCases, Routi
 
 -- To open this name is to open every definition that a run of the routines computes with.
 unfoldable pub computed : Routines → List RoutineCall → Routines
-unfolding run-computed tally routineLists activeOnce atItsPriority lastHeldThere othersIdle holdersInside soundRoutines callRefusalOf callRefusal entered exited commanded callRoutine counted tableAfter runRoutines runTable lastHolder handovers historyAfter
+unfolding run-computed tally routineLists activeOnce atItsPriority lastHeldThere othersIdle holdersInside soundRoutines callRefusalOf
+    callRefusal entered exited commanded callRoutine counted tableAfter runRoutines runTable lastHolder handovers historyAfter
 computed = runRoutines
 
 pub runs-pass : allPass runCases ≡ true
