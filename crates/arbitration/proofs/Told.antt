@@ -21,7 +21,8 @@ use Rattle.model.specs.Requests.{currentPriority, candidate}
 use Rattle.model.specs.Arbitration.{rank, higher, highest, coreKey, lower, least}
 use Rattle.model.specs.Settling.{interruptedBy}
 use Rattle.model.proofs.Candidates.{rank-candidate, rank-none}
-use Rattle.arbitration.specs.Places.{rankStep, keyAt, rankAt, coreOf, currentOf, sourceOf, priorityOf, Outermost, LowestOf, GreatestOf}
+use Rattle.arbitration.specs.Places.{rankStep, keyAt, rankAt, coreOf, currentOf, sourceOf, priorityOf, Outermost, LowestOf}
+use Rattle.arbitration.specs.Places.{GreatestOf}
 use Rattle.arbitration.proofs.Tree.{highest-first, highest-below}
 use Rattle.arbitration.proofs.LeastCore.{least-first}
 

@@ -11,7 +11,8 @@ use Rattle.model.specs.declared.Source.{Source}
 use Rattle.model.specs.declared.MessageBox.{MessageBox}
 use Rattle.model.specs.declared.Core.{Core}
 use Rattle.model.specs.declared.Controller.{Controller}
-use Rattle.model.specs.Records.{maxSources, maxCores, noSource, noCore, sourceId, sourceWith, boxWith, coreWith, withSource, withCore, reset}
+use Rattle.model.specs.Records.{maxSources, maxCores, noSource, noCore, sourceId, sourceWith, boxWith, coreWith, withSource, withCore}
+use Rattle.model.specs.Records.{reset}
 use Rattle.layout.specs.Bytes.{wordAt, flagAt, sourceFrom, coreFrom, sourceOf, coreOf, stateFrom}
 use Rattle.lists.specs.Rows.{tabulated}
 use Rattle.lists.proofs.Filling.{Filled, Anything, ValueOf, filled-none, filled-more, filled-tabulated}

@@ -12,7 +12,8 @@ use Rattle.model.specs.declared.Command.{Command}
 use Rattle.model.specs.declared.Command.the-variants.{OnSource, OnCore}
 use Rattle.model.specs.Records.{indexOf, answer}
 use Rattle.model.specs.WellFormed.{wellFormed}
-use Rattle.model.specs.Commands.{badCore, badSource, unless, namesSource, namesCore, sourceRefusal, coreRefusal, effect, refusalOf, refusal, answeredId, settled, refused, execute}
+use Rattle.model.specs.Commands.{badCore, badSource, unless, namesSource, namesCore, sourceRefusal, coreRefusal, effect, refusalOf, refusal}
+use Rattle.model.specs.Commands.{answeredId, settled, refused, execute}
 use Rattle.effects.proofs.Accepted.{execute-accepted, execute-refused}
 
 abbrev pub named : Controller → Command → Bool

@@ -19,8 +19,10 @@ use Rattle.model.specs.Commands.{sourceAfter, effect, refusalOf}
 use Rattle.settling.specs.Phases.{Delivering, Phase, retracting, delivering, Spared}
 use Rattle.settling.proofs.Spared.{unfilled-frugal}
 use Rattle.effects.proofs.Checked.{named-index, SourceChecked, Checked, checked}
-use Rattle.effects.proofs.SourceEffects.{Replaces, withSource-consistent, set-replaces, opened-replaces, redelivered-replaces, ended-replaces}
-use Rattle.effects.proofs.CoreEffects.{withCores-consistent, claimedCores, claimed-recored, claimed-delivering, claimed-frugal, setCores, set-recored, set-allDirty}
+use Rattle.effects.proofs.SourceEffects.{Replaces, withSource-consistent, set-replaces, opened-replaces, redelivered-replaces}
+use Rattle.effects.proofs.SourceEffects.{ended-replaces}
+use Rattle.effects.proofs.CoreEffects.{withCores-consistent, claimedCores, claimed-recored, claimed-delivering, claimed-frugal}
+use Rattle.effects.proofs.CoreEffects.{setCores, set-recored, set-allDirty}
 
 pub effect-sizes : (s : Controller) (o : Command) → ((effect s o) .n ≡ s .n) × ((effect s o) .m ≡ s .m)
 unfolding effect

@@ -10,7 +10,8 @@ use native.Mathlib.Omega.{arith}
 use Rattle.model.specs.declared.Source.{Source}
 use Rattle.model.specs.declared.Core.{Core}
 use Rattle.model.specs.declared.Controller.{Controller}
-use Rattle.model.specs.Records.{noSource, resetSource, indexOf, sourceAt, coreAt, withSource, withConfigured, withMask, withDelivered, opened, ended}
+use Rattle.model.specs.Records.{noSource, resetSource, indexOf, sourceAt, coreAt, withSource, withConfigured, withMask, withDelivered}
+use Rattle.model.specs.Records.{opened, ended}
 use Rattle.model.specs.Priorities.{topPriority}
 use Rattle.model.specs.Requests.{holds, claimed}
 use Rattle.lists.proofs.Bools.{clash}

@@ -16,7 +16,8 @@ use Rattle.model.specs.declared.Controller.{Controller}
 use Rattle.model.specs.declared.Command.{Command}
 use Rattle.model.specs.Records.{maxSources, maxCores, noSource, noCore, sourceAt, coreAt}
 use Rattle.layout.specs.Commands.{numberOf, targetOf, levelOf}
-use Rattle.layout.specs.Bytes.{word, flagByte, sourceSize, coreSize, stateSize, sourcesFrom, coresFrom, sourceBytes, coreBytes, stateBytes, commandBytes}
+use Rattle.layout.specs.Bytes.{word, flagByte, sourceSize, coreSize, stateSize, sourcesFrom, coresFrom, sourceBytes, coreBytes, stateBytes}
+use Rattle.layout.specs.Bytes.{commandBytes}
 use Rattle.lists.specs.Rows.{joined}
 use Rattle.layout.specs.Statements.{Sized}
 use Rattle.lists.proofs.Writes.{take-sets}

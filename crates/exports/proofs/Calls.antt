@@ -18,7 +18,8 @@ use Rattle.model.specs.declared.Decoded.the-variants.{Unknown, Known}
 use Rattle.model.specs.declared.Answer.{Answer}
 use Rattle.model.specs.Commands.{execute, make, run}
 use Rattle.layout.specs.Commands.{commandOf}
-use Rattle.layout.specs.Bytes.{stateSize, stateBytes, stateFrom, isState, commandsIn, unreadable, packed, Call, callOf, Does, makeCall, executedOn, executeCall, DoesRun, noCount, roomFor, fitsRun, RunCall, runCallOf, runCall}
+use Rattle.layout.specs.Bytes.{stateSize, stateBytes, stateFrom, isState, commandsIn, unreadable, packed, Call, callOf, Does, makeCall}
+use Rattle.layout.specs.Bytes.{executedOn, executeCall, DoesRun, noCount, roomFor, fitsRun, RunCall, runCallOf, runCall}
 use Rattle.layout.proofs.Answers.{readCommand, answersFrom, controller}
 use Rattle.layout.proofs.Lists.{Ran}
 use Rattle.in_place.specs.declared.Outcome.{Outcome}

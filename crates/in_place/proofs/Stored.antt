@@ -17,7 +17,8 @@ use Rattle.model.specs.declared.Source.{Source}
 use Rattle.model.specs.declared.MessageBox.{MessageBox}
 use Rattle.model.specs.declared.Core.{Core}
 use Rattle.model.specs.declared.Controller.{Controller}
-use Rattle.model.specs.Records.{maxSources, maxCores, noSource, noCore, sourceId, emptyBox, withDelivered, holding, coreWith, sourceAt, coreAt, withSource, withSources, withCore}
+use Rattle.model.specs.Records.{maxSources, maxCores, noSource, noCore, sourceId, emptyBox, withDelivered, holding, coreWith, sourceAt}
+use Rattle.model.specs.Records.{coreAt, withSource, withSources, withCore}
 use Rattle.model.specs.Settling.{putBack, retract, deliver}
 use Rattle.lists.proofs.Filling.{filled-written}
 use Rattle.arbitration.specs.Places.{keyAt, rankAt}

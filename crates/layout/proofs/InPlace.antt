@@ -14,7 +14,8 @@ use Rattle.model.specs.Records.{maxSources, maxCores, noSource, noCore, sourceA
 use Rattle.lists.specs.Rows.{joined}
 use Rattle.lists.proofs.Rows.{getD-tabulated}
 use Rattle.lists.proofs.Stores.{sets-front, sets-behind, sets-joined}
-use Rattle.layout.specs.Bytes.{word, sourceSize, coreSize, sourcesFrom, coresFrom, sourceBytes, coreBytes, stateBytes, sourceFrom, coreFrom, stateFrom}
+use Rattle.layout.specs.Bytes.{word, sourceSize, coreSize, sourcesFrom, coresFrom, sourceBytes, coreBytes, stateBytes, sourceFrom}
+use Rattle.layout.specs.Bytes.{coreFrom, stateFrom}
 use Rattle.layout.specs.Statements.{Sized}
 use Rattle.layout.proofs.Records.{source-back, core-back}
 use Rattle.layout.proofs.RoundTrip.{sources-length, source-there, core-there}

@@ -11,7 +11,8 @@ use Rattle.model.specs.declared.Source.{Source}
 use Rattle.model.specs.declared.Core.{Core}
 use Rattle.model.specs.declared.Controller.{Controller}
 use Rattle.model.specs.Records.{maxSources, maxCores, noSource, noCore, sourceAt, coreAt}
-use Rattle.layout.specs.Bytes.{flagByte, wordAt, sourceSize, coreSize, sourcesFrom, coresFrom, sourceBytes, coreBytes, stateBytes, sourceOf, coreOf, stateFrom}
+use Rattle.layout.specs.Bytes.{flagByte, wordAt, sourceSize, coreSize, sourcesFrom, coresFrom, sourceBytes, coreBytes, stateBytes}
+use Rattle.layout.specs.Bytes.{sourceOf, coreOf, stateFrom}
 use Rattle.lists.specs.Rows.{joined}
 use Rattle.layout.specs.Statements.{Fits, SourceInWords, CoreInWords, IsWord, AreBytes, BytesFit}
 use Rattle.lists.proofs.Rows.{length-tabulated, getD-tabulated}

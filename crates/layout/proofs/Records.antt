@@ -15,7 +15,8 @@ use borrow.Author.Tests.{leb-true}
 use Rattle.lists.proofs.Bools.{and-l, and-r}
 use Rattle.model.specs.declared.Source.{Source}
 use Rattle.model.specs.declared.Core.{Core}
-use Rattle.layout.specs.Bytes.{word, flagByte, wordAt, flagAt, isFlagAt, sourceBytes, coreBytes, sourceFrom, coreFrom, sourceFlags, coreFlags}
+use Rattle.layout.specs.Bytes.{word, flagByte, wordAt, flagAt, isFlagAt, sourceBytes, coreBytes, sourceFrom, coreFrom, sourceFlags}
+use Rattle.layout.specs.Bytes.{coreFlags}
 
 -- ---- reading what was written
 

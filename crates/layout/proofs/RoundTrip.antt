@@ -11,7 +11,8 @@ use lib.Dec.{eqb}
 use Rattle.model.specs.declared.Controller.{Controller}
 use Rattle.model.specs.Records.{maxSources, maxCores, noSource, noCore, sourceAt, coreAt}
 use Rattle.lists.specs.Walks.{every}
-use Rattle.layout.specs.Bytes.{word, wordAt, sourceSize, coreSize, stateSize, sourcesFrom, coresFrom, sourceBytes, coreBytes, stateBytes, sourceOf, coreOf, stateFrom, sourceFlagsOf, coreFlagsOf, isState}
+use Rattle.layout.specs.Bytes.{word, wordAt, sourceSize, coreSize, stateSize, sourcesFrom, coresFrom, sourceBytes, coreBytes}
+use Rattle.layout.specs.Bytes.{stateBytes, sourceOf, coreOf, stateFrom, sourceFlagsOf, coreFlagsOf, isState}
 use Rattle.lists.specs.Rows.{joined, tabulated}
 use Rattle.lists.proofs.Bools.{and-l, and-r}
 use Rattle.lists.proofs.Walks.{every-in, every-out}

@@ -10,7 +10,8 @@ use Rattle.model.specs.declared.SourceAction.the-variants.{SetSourcePriority, M
 use Rattle.model.specs.declared.CoreAction.the-variants.{SetCorePriority, Claim}
 use Rattle.model.specs.Records.{sourceId, coreId, sourceWith, boxWith, coreWith, controllerWith, reset, answer}
 use Rattle.model.specs.Ledger.{entryWith}
-use Rattle.layout.specs.Bytes.{sourceBytes, coreBytes, stateBytes, commandsIn, answerBytes, entriesIn, packed, numberIn, idIn, cyclesIn, callOf, makeCall, executeCall, runCallOf, runCall}
+use Rattle.layout.specs.Bytes.{sourceBytes, coreBytes, stateBytes, commandsIn, answerBytes, entriesIn, packed, numberIn, idIn}
+use Rattle.layout.specs.Bytes.{cyclesIn, callOf, makeCall, executeCall, runCallOf, runCall}
 
 -- The bytes of a part, so many times.
 unfoldable pub times : ℕ → List ℕ → List ℕ

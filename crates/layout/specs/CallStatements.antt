@@ -18,7 +18,8 @@ use Rattle.model.specs.declared.Decoded.the-variants.{Known}
 use Rattle.model.specs.Commands.{execute}
 use Rattle.model.specs.Ledger.{Entry, entryWith, opening, ledger}
 use Rattle.layout.specs.Commands.{commandOf, numberOf, targetOf, levelOf}
-use Rattle.layout.specs.Bytes.{wordAt, stateSize, stateFrom, isState, commandBytes, commandsIn, answerSize, entriesIn, numberIn, idIn, cyclesIn, Call, makeCall, executeCall, RunCall, noCount, roomFor, runCall}
+use Rattle.layout.specs.Bytes.{wordAt, stateSize, stateFrom, isState, commandBytes, commandsIn, answerSize, entriesIn, numberIn, idIn}
+use Rattle.layout.specs.Bytes.{cyclesIn, Call, makeCall, executeCall, RunCall, noCount, roomFor, runCall}
 use Rattle.lists.specs.Rows.{joined}
 use Rattle.model.specs.Statements.{InRange, PriorityStrict}
 use Rattle.layout.specs.Statements.{AreBytes}

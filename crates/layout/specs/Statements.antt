@@ -17,7 +17,8 @@ use Rattle.model.specs.declared.Command.{Command}
 use Rattle.model.specs.declared.Answer.{Answer}
 use Rattle.model.specs.Records.{maxSources, maxCores, sourceAt, coreAt}
 use Rattle.layout.specs.Commands.{targetOf, levelOf}
-use Rattle.layout.specs.Bytes.{stateBytes, stateFrom, isState, commandSize, commandBytes, commandsIn, packed, numberIn, idIn, cyclesIn}
+use Rattle.layout.specs.Bytes.{stateBytes, stateFrom, isState, commandSize, commandBytes, commandsIn, packed, numberIn, idIn}
+use Rattle.layout.specs.Bytes.{cyclesIn}
 use Rattle.lists.specs.Rows.{joined}
 
 -- The lists have the arrays' lengths.

@@ -15,7 +15,9 @@ use Rattle.model.specs.Priorities.{floorLog2, priorityWidth, topPriority
 use Rattle.lists.specs.Walks.{every, some, walk, tree}
 use Rattle.model.specs.Requests.{boxed}
 use Rattle.model.specs.Arbitration.{highest, least, leastPriority}
-use Rattle.model.specs.WellFormed.{sizesInRange, listsWhole, sourceInRange, isEmptyBox, coreInRange, isResetSource, isResetCore, backedBy, sourcesInRange, coresInRange, sparesReset, boxesBacked, boxesDistinct, boxesClean, candidatesSettled, coveredSettled, frugal, consistent, quiet, wellFormed}
+use Rattle.model.specs.WellFormed.{sizesInRange, listsWhole, sourceInRange, isEmptyBox, coreInRange, isResetSource, isResetCore}
+use Rattle.model.specs.WellFormed.{backedBy, sourcesInRange, coresInRange, sparesReset, boxesBacked, boxesDistinct, boxesClean}
+use Rattle.model.specs.WellFormed.{candidatesSettled, coveredSettled, frugal, consistent, quiet, wellFormed}
 use Rattle.model.specs.Settling.{retract, deliver, firstDirty, arbitrate, next, cycle, settle, countOf, cyclesOf}
 use Rattle.model.specs.Commands.{effect, refusalOf, refusal, answeredId, settled, refused, execute, run}
 use Rattle.lists.specs.Rows.{gather}

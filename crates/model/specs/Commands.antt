@@ -22,7 +22,8 @@ use Rattle.model.specs.declared.SourceAction.{SourceAction}
 use Rattle.model.specs.declared.SourceAction.the-variants.{SetSourcePriority, Mask, Unmask, Trigger, Redeliver, Complete}
 use Rattle.model.specs.declared.CoreAction.{CoreAction}
 use Rattle.model.specs.declared.CoreAction.the-variants.{SetCorePriority, Claim}
-use Rattle.model.specs.Records.{indexOf, withConfigured, withMask, withDelivered, opened, ended, emptyBox, dirtied, coreWith, noCore, sourceAt, coreAt, withCores, withSource, reset, answer}
+use Rattle.model.specs.Records.{indexOf, withConfigured, withMask, withDelivered, opened, ended, emptyBox, dirtied, coreWith, noCore}
+use Rattle.model.specs.Records.{sourceAt, coreAt, withCores, withSource, reset, answer}
 use Rattle.model.specs.Priorities.{topPriority}
 use Rattle.model.specs.Requests.{claimed}
 use Rattle.lists.specs.Numbers.{between}

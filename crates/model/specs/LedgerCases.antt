@@ -13,7 +13,8 @@ use Rattle.model.specs.declared.Command.the-variants.{OnSource, OnCore}
 use Rattle.model.specs.declared.SourceAction.the-variants.{SetSourcePriority, Mask, Unmask, Trigger, Redeliver, Complete}
 use Rattle.model.specs.declared.CoreAction.the-variants.{SetCorePriority, Claim}
 use Rattle.model.specs.Records.{sourceId, coreId, holding, coreWith, withCore, reset}
-use Rattle.model.specs.Ledger.{Request, noRequest, openRequest, claimedRequest, Ledger, Entry, opening, ledger, competes, collection, Placement, given, inBoxes}
+use Rattle.model.specs.Ledger.{Request, noRequest, openRequest, claimedRequest, Ledger, Entry, opening, ledger, competes, collection}
+use Rattle.model.specs.Ledger.{Placement, given, inBoxes}
 use Rattle.lists.specs.Rows.{row}
 use Rattle.lists.specs.Sorting.{sortDown}
 use Rattle.model.specs.Cases.{sameNumbers}

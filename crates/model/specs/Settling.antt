@@ -16,7 +16,8 @@ use Rattle.model.specs.declared.Core.{Core}
 use Rattle.model.specs.declared.Controller.{Controller}
 use Rattle.model.specs.declared.Cycle.{Cycle}
 use Rattle.model.specs.declared.Cycle.the-variants.{Rest, Retract, Deliver}
-use Rattle.model.specs.Records.{noSource, noCore, sourceId, coreId, indexOf, withDelivered, emptyBox, holding, coreWith, sourceAt, coreAt, withSources, withCore}
+use Rattle.model.specs.Records.{noSource, noCore, sourceId, coreId, indexOf, withDelivered, emptyBox, holding, coreWith, sourceAt}
+use Rattle.model.specs.Records.{coreAt, withSources, withCore}
 use Rattle.model.specs.Requests.{currentPriority, candidate}
 use Rattle.model.specs.Arbitration.{highest, least}
 

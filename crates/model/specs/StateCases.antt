@@ -18,9 +18,11 @@ use Rattle.model.specs.declared.Cycle.the-variants.{Rest, Retract, Deliv
 use Rattle.model.specs.declared.Command.the-variants.{OnSource, OnCore}
 use Rattle.model.specs.declared.SourceAction.the-variants.{Mask}
 use Rattle.model.specs.declared.CoreAction.the-variants.{SetCorePriority}
-use Rattle.model.specs.Records.{sourceId, coreId, sourceWith, resetSource, boxWith, emptyBox, coreWith, resetCore, sourceAt, coreAt, withSources, withCores, withSource, withCore, reset}
+use Rattle.model.specs.Records.{sourceId, coreId, sourceWith, resetSource, boxWith, emptyBox, coreWith, resetCore, sourceAt, coreAt}
+use Rattle.model.specs.Records.{withSources, withCores, withSource, withCore, reset}
 use Rattle.lists.specs.Walks.{every}
-use Rattle.model.specs.WellFormed.{backedBy, sizesInRange, listsWhole, sourcesInRange, coresInRange, sparesReset, boxesBacked, boxesDistinct, boxesClean, candidatesSettled, coveredSettled, frugal, wellFormed}
+use Rattle.model.specs.WellFormed.{backedBy, sizesInRange, listsWhole, sourcesInRange, coresInRange, sparesReset, boxesBacked}
+use Rattle.model.specs.WellFormed.{boxesDistinct, boxesClean, candidatesSettled, coveredSettled, frugal, wellFormed}
 use Rattle.model.specs.Settling.{next, cycle}
 use Rattle.model.specs.Commands.{effect, execute, make}
 use Rattle.model.specs.Cases.{sameNumbers}

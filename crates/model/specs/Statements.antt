@@ -8,7 +8,8 @@ use mathlib.Core.List.{List}
 use mathlib.Core.Bool.{Bool, true, false, _||_, cond}
 use lib.ListN.{getD, take}
 use lib.Dec.{eqb}
-use Rattle.model.specs.WellFormed.{NoneAbove, Frugal, frugal, Quiet, quiet, Clean, boxesClean, Consistent, consistent, wellFormed, WellFormed}
+use Rattle.model.specs.WellFormed.{NoneAbove, Frugal, frugal, Quiet, quiet, Clean, boxesClean, Consistent, consistent, wellFormed}
+use Rattle.model.specs.WellFormed.{WellFormed}
 use Rattle.lists.specs.Walks.{FirstOf, comparisons}
 use Rattle.model.specs.declared.Source.{Source}
 use Rattle.model.specs.declared.SourceId.{SourceId}
@@ -23,13 +24,16 @@ use Rattle.model.specs.declared.SourceAction.{SourceAction}
 use Rattle.model.specs.declared.SourceAction.the-variants.{SetSourcePriority, Mask, Unmask, Trigger, Redeliver, Complete}
 use Rattle.model.specs.declared.CoreAction.{CoreAction}
 use Rattle.model.specs.declared.CoreAction.the-variants.{SetCorePriority, Claim}
-use Rattle.model.specs.Records.{maxSources, maxCores, noSource, noCore, sourceId, indexOf, sourceWith, boxWith, coreWith, sourceAt, coreAt, bare, reset, answer}
+use Rattle.model.specs.Records.{maxSources, maxCores, noSource, noCore, sourceId, indexOf, sourceWith, boxWith, coreWith, sourceAt}
+use Rattle.model.specs.Records.{coreAt, bare, reset, answer}
 use Rattle.model.specs.Priorities.{floorLog2, topPriority}
 use Rattle.model.specs.Requests.{currentPriority, candidate, claimed, Owner, Owns}
 use Rattle.model.specs.Arbitration.{higher, highest, highestByWalk, highestId, lower, least}
 use Rattle.model.specs.Settling.{deliver, interruptedBy, next, settle, isRetraction, isDelivery, countOf, cyclesOf}
-use Rattle.model.specs.Commands.{effect, malformed, badCore, badSource, badPriority, alreadyPending, nothingToClaim, notClaimed, refusal, afterRefusal, execute, make}
-use Rattle.model.specs.Ledger.{Ledger, opening, ledger, collection, Placement, given, inBoxes, requestPriority, currentPriorities, placedBy, filledBoxes, entriesBy}
+use Rattle.model.specs.Commands.{effect, malformed, badCore, badSource, badPriority, alreadyPending, nothingToClaim, notClaimed}
+use Rattle.model.specs.Commands.{refusal, afterRefusal, execute, make}
+use Rattle.model.specs.Ledger.{Ledger, opening, ledger, collection, Placement, given, inBoxes, requestPriority, currentPriorities}
+use Rattle.model.specs.Ledger.{placedBy, filledBoxes, entriesBy}
 use Rattle.lists.specs.Rows.{row}
 use Rattle.lists.specs.Sorting.{sortDown}
 use Rattle.model.specs.Behaviours.{Behaviour, runBy}

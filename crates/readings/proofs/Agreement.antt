@@ -23,7 +23,8 @@ use Rattle.recording.specs.Records.{variableOf, withVariableOf, variableWith, s
 use Rattle.recording.specs.Declarations.{signals, nameOf, Form, narrow, forms, widthIn, declared, allDeclared, fits, hasCode, declares}
 use Rattle.recording.specs.Grammar.{Declaration, declaration, Once, none, more, Complete}
 use Rattle.readings.proofs.Codes.{name-injective, code-injective, code-positive, positive-code}
-use Rattle.readings.proofs.Lists.{all-in, all-out, any-in, any-out, none-out, every-signal, read-same, Compared, same, other, compare}
+use Rattle.readings.proofs.Lists.{all-in, all-out, any-in, any-out, none-out, every-signal, read-same, Compared, same, other}
+use Rattle.readings.proofs.Lists.{compare}
 
 -- the variable of a declaration
 pub record Known (vs : Variables) (d : Declaration) : Type 0 where

@@ -24,7 +24,8 @@ use Rattle.recording.specs.Words.{bytesOf, sameBytes, isText, all, any, Word}
 use Rattle.recording.specs.Values.{isDecimal, codeOf, isBit, bitOf, valueOf, vectorOf}
 use Rattle.recording.specs.Records.{variable, at, withVector, withValue}
 use Rattle.recording.specs.Declarations.{nameOf, hasCode}
-use Rattle.recording.specs.Reading.{isBody, outOfPlace, isVector, isScalar, readChange, vectorSignal, readVectorCode, startsTime, readTime, isDump, readBody, readBlock, readAt, advance, readWords, finished}
+use Rattle.recording.specs.Reading.{isBody, outOfPlace, isVector, isScalar, readChange, vectorSignal, readVectorCode, startsTime, readTime}
+use Rattle.recording.specs.Reading.{isDump, readBody, readBlock, readAt, advance, readWords, finished}
 use Rattle.recording.specs.Faults.{takesVector, isChange, fitsIn, declaresWell}
 use Rattle.recording.specs.Grammar.{Declaration, Once, more, Change, scalar, vector, Changes, Items}
 use Rattle.readings.proofs.Codes.{same-bytes, name-injective}

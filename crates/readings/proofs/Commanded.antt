@@ -17,7 +17,8 @@ use borrow.Author.Tests.{leb-true, eqb-true}
 use Rattle.lists.proofs.Bools.{and-l, and-r}
 use Rattle.layout.specs.Commands.{commandOf}
 use Rattle.recording.specs.declared.Place.{Place}
-use Rattle.recording.specs.declared.Place.the-variants.{Definition, SkipDefinition, Wire, Width, Code, Name, VarEnd, DefinitionsEnd, Body, SkipBody, BodyCode, Block, BlockCode}
+use Rattle.recording.specs.declared.Place.the-variants.{Definition, SkipDefinition, Wire, Width, Code, Name, VarEnd, DefinitionsEnd, Body}
+use Rattle.recording.specs.declared.Place.the-variants.{SkipBody, BodyCode, Block, BlockCode}
 use Rattle.recording.specs.declared.Signal.{Signal}
 use Rattle.recording.specs.declared.Signal.the-variants.{Stb, Cmd, Core, Arg, Prio}
 use Rattle.recording.specs.declared.Variable.{Variable}
@@ -29,7 +30,9 @@ use Rattle.recording.specs.Values.{Bit, isDefinite, isDecimal, isCode, bitOf, b
 use Rattle.recording.specs.Records.{start, variable, at, withUp, withTaken, withValue, declaring, refused, only, readWith}
 use Rattle.recording.specs.Declarations.{narrow, fits, declared, signalOf, allDeclared, declares}
 use Rattle.recording.specs.Stamps.{maxCommands, level, rises, isHigh, isReadable, strobeOf, named, endStamp, endOpenStamp}
-use Rattle.recording.specs.Reading.{isGood, outOfPlace, isSkipped, readDefinition, readWidth, readCode, readName, isVector, isScalar, readChange, vectorSignal, readVectorCode, startsTime, isTime, timeOf, isLater, openStamp, andThen, readTime, isDump, readBody, readBlock, readAt, readWord}
+use Rattle.recording.specs.Reading.{isGood, outOfPlace, isSkipped, readDefinition, readWidth, readCode, readName, isVector, isScalar}
+use Rattle.recording.specs.Reading.{readChange, vectorSignal, readVectorCode, startsTime, isTime, timeOf, isLater, openStamp, andThen}
+use Rattle.recording.specs.Reading.{readTime, isDump, readBody, readBlock, readAt, readWord}
 use Rattle.readings.proofs.Extension.{numeral-below}
 
 pub record Fits (c : Variable) (v : Vector) : Type 0 where

@@ -13,7 +13,8 @@ use lib.Dec.{leb}
 use borrow.Author.Tests.{leb-true, ltb-true}
 use Rattle.lists.proofs.Bools.{and-l, and-r}
 use Rattle.recording.specs.declared.Place.{Place}
-use Rattle.recording.specs.declared.Place.the-variants.{Definition, SkipDefinition, Wire, Width, Code, Name, VarEnd, DefinitionsEnd, Body, SkipBody, BodyCode, Block, BlockCode}
+use Rattle.recording.specs.declared.Place.the-variants.{Definition, SkipDefinition, Wire, Width, Code, Name, VarEnd, DefinitionsEnd, Body}
+use Rattle.recording.specs.declared.Place.the-variants.{SkipBody, BodyCode, Block, BlockCode}
 use Rattle.recording.specs.declared.Signal.{Signal}
 use Rattle.recording.specs.declared.Signal.the-variants.{Stb, Cmd, Core, Arg, Prio}
 use Rattle.recording.specs.declared.Variables.{Variables}
@@ -23,12 +24,15 @@ use Rattle.recording.specs.Words.{isText, sameBytes, Word}
 use Rattle.recording.specs.Values.{isDecimal, decimal, isCode, codeOf, isBit, bitOf, valueOf, vectorOf}
 use Rattle.recording.specs.Records.{start, variable, at, withWidth, withCode, withVector, withValue, declaring, refused, only}
 use Rattle.recording.specs.Declarations.{signals, nameOf, signalOf, declared, allDeclared, hasCode}
-use Rattle.recording.specs.Reading.{isBody, isGood, outOfPlace, isSkipped, readDefinition, readWidth, readCode, readName, isVector, isScalar, readChange, vectorSignal, readVectorCode, startsTime, isTime, readTime, isDump, readBody, readBlock, readAt, readWord, Progress, progress, advance, readWords, finished}
+use Rattle.recording.specs.Reading.{isBody, isGood, outOfPlace, isSkipped, readDefinition, readWidth, readCode, readName, isVector}
+use Rattle.recording.specs.Reading.{isScalar, readChange, vectorSignal, readVectorCode, startsTime, isTime, readTime, isDump, readBody}
+use Rattle.recording.specs.Reading.{readBlock, readAt, readWord, Progress, progress, advance, readWords, finished}
 use Rattle.recording.specs.Faults.{takesVector, isChange, fitsIn, isDeclared, declaresWell}
 use Rattle.recording.specs.Grammar.{Is, Skipped, Declaration, declaration, Change, scalar, vector, Changes, Items, Definitions}
 use Rattle.readings.proofs.Codes.{same-bytes, name-injective}
 use Rattle.readings.proofs.Lists.{first-out}
-use Rattle.readings.proofs.Agreement.{Agrees, agrees-start, agrees-kept, value-kinds, Pends, declares-out, agrees-declared, complete-declared, small-widths, Declares, code-of}
+use Rattle.readings.proofs.Agreement.{Agrees, agrees-start, agrees-kept, value-kinds, Pends, declares-out, agrees-declared}
+use Rattle.readings.proofs.Agreement.{complete-declared, small-widths, Declares, code-of}
 use Rattle.readings.proofs.Faults.{good-word}
 use Rattle.readings.proofs.Steps.{good-fits, good-finish-body, good-before, Stays, time-stays}
 

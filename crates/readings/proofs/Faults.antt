@@ -10,7 +10,8 @@ use mathlib.Core.Bool.{Bool, true, false, not, _&&_, _||_, cond}
 use lib.ListN.{getD}
 use lib.Dec.{leb, eqb}
 use Rattle.recording.specs.declared.Place.{Place}
-use Rattle.recording.specs.declared.Place.the-variants.{Definition, SkipDefinition, Wire, Width, Code, Name, VarEnd, DefinitionsEnd, Body, SkipBody, BodyCode, Block, BlockCode}
+use Rattle.recording.specs.declared.Place.the-variants.{Definition, SkipDefinition, Wire, Width, Code, Name, VarEnd, DefinitionsEnd, Body}
+use Rattle.recording.specs.declared.Place.the-variants.{SkipBody, BodyCode, Block, BlockCode}
 use Rattle.recording.specs.declared.Signal.{Signal}
 use Rattle.recording.specs.declared.Signal.the-variants.{Stb}
 use Rattle.recording.specs.declared.Fault.{Fault}
@@ -19,11 +20,15 @@ use Rattle.recording.specs.declared.Reader.{Reader}
 use Rattle.recording.specs.declared.Read.{Read}
 use Rattle.recording.specs.Words.{isText, Word}
 use Rattle.recording.specs.Values.{isDecimal, decimal, isCode, codeOf, bitOf, valueOf, vectorOf}
-use Rattle.recording.specs.Records.{variable, at, withWidth, withCode, withVector, withValue, declaring, withTime, withUp, withTaken, refused, faultWith, noStrobe, readWith, only}
+use Rattle.recording.specs.Records.{variable, at, withWidth, withCode, withVector, withValue, declaring, withTime, withUp, withTaken}
+use Rattle.recording.specs.Records.{refused, faultWith, noStrobe, readWith, only}
 use Rattle.recording.specs.Declarations.{signalOf, allDeclared, declares}
 use Rattle.recording.specs.Stamps.{maxCommands, level, isHigh, rises, isReadable, strobeOf, endStamp, endOpenStamp}
-use Rattle.recording.specs.Reading.{isBody, isGood, outOfPlace, isSkipped, readDefinition, readWidth, readCode, readName, isVector, isScalar, readChange, vectorSignal, readVectorCode, startsTime, isTime, timeOf, isLater, openStamp, andThen, readTime, isDump, readBody, readBlock, readAt, readWord, ending, finish}
-use Rattle.recording.specs.Faults.{unclear, excessive, takesVector, isChange, fitsIn, isDeclared, declaresWell, faultAt, faultAtEnd, takenAt}
+use Rattle.recording.specs.Reading.{isBody, isGood, outOfPlace, isSkipped, readDefinition, readWidth, readCode, readName, isVector}
+use Rattle.recording.specs.Reading.{isScalar, readChange, vectorSignal, readVectorCode, startsTime, isTime, timeOf, isLater, openStamp}
+use Rattle.recording.specs.Reading.{andThen, readTime, isDump, readBody, readBlock, readAt, readWord, ending, finish}
+use Rattle.recording.specs.Faults.{unclear, excessive, takesVector, isChange, fitsIn, isDeclared, declaresWell, faultAt, faultAtEnd}
+use Rattle.recording.specs.Faults.{takenAt}
 use Rattle.recording.specs.Statements.{FaultsExact, StrobesExact}
 
 -- ---- the end of a stamp

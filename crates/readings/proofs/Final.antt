@@ -14,7 +14,8 @@ use Rattle.recording.specs.declared.Read.{Read}
 use Rattle.recording.specs.Words.{Word, cut, words}
 use Rattle.recording.specs.Records.{start, faultWith, only}
 use Rattle.recording.specs.Stamps.{commandsOf}
-use Rattle.recording.specs.Reading.{isBody, isGood, readWord, finish, Progress, progress, advance, readWords, finished, readingWith, answered, reading}
+use Rattle.recording.specs.Reading.{isBody, isGood, readWord, finish, Progress, progress, advance, readWords, finished, readingWith}
+use Rattle.recording.specs.Reading.{answered, reading}
 use Rattle.recording.specs.Faults.{endsStamp, unclear, excessive, fitsIn, declaresWell, isLate, faultAt, faultAtEnd}
 use Rattle.recording.specs.Statements.{upTo, FaultIsFinal, Shown, at-word, at-end, FaultsShown}
 use Rattle.readings.proofs.Cutting.{cut-joined, readWords-joined}

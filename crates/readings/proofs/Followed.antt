@@ -18,7 +18,8 @@ use Rattle.recording.specs.Words.{bytesOf, Word}
 use Rattle.recording.specs.Values.{isDecimal, decimal, isCode, codeOf}
 use Rattle.recording.specs.Records.{start, variable, at, withWidth, withCode, declaring, refused}
 use Rattle.recording.specs.Declarations.{signals, nameOf, signalOf, Form, forms, widthIn, declared, allDeclared, declares}
-use Rattle.recording.specs.Reading.{outOfPlace, isSkipped, readDefinition, readWidth, readCode, readName, readAt, progress, readWords, finished}
+use Rattle.recording.specs.Reading.{outOfPlace, isSkipped, readDefinition, readWidth, readCode, readName, readAt, progress, readWords}
+use Rattle.recording.specs.Reading.{finished}
 use Rattle.recording.specs.Faults.{fitsIn, isDeclared, declaresWell}
 use Rattle.recording.specs.Grammar.{Is, Declaration, declaration, Once, more, Complete, Definitions}
 use Rattle.readings.proofs.Codes.{same-bytes, signal-of-name, name-injective, code-injective, code-positive}

@@ -18,7 +18,8 @@ use Rattle.recording.specs.declared.Read.{Read}
 use Rattle.recording.specs.Words.{Word}
 use Rattle.recording.specs.Records.{faultWith, refused, withTime, readWith}
 use Rattle.recording.specs.Stamps.{endOpenStamp}
-use Rattle.recording.specs.Reading.{isBody, isGood, outOfPlace, isTime, timeOf, isLater, openStamp, andThen, readTime, readWord, finish, Progress, readWords, finished}
+use Rattle.recording.specs.Reading.{isBody, isGood, outOfPlace, isTime, timeOf, isLater, openStamp, andThen, readTime, readWord, finish}
+use Rattle.recording.specs.Reading.{Progress, readWords, finished}
 use Rattle.recording.specs.Faults.{endsStamp, unclear, excessive, fitsIn, declaresWell, isLate, faultAt, faultAtEnd}
 use Rattle.readings.proofs.Faults.{by-stamp, faults-exact}
 use Rattle.readings.proofs.Final.{bad-words, bad-finished}

@@ -11,7 +11,9 @@ use Rattle.recording.specs.Values.{decimal, codeOf, valueOf, vectorOf}
 use Rattle.recording.specs.Records.{start}
 use Rattle.recording.specs.Declarations.{declares}
 use Rattle.recording.specs.Stamps.{isReadable, strobeOf, commandsOf, endStamp, endOpenStamp}
-use Rattle.recording.specs.Reading.{readDefinition, readWidth, readCode, readName, readChange, readVectorCode, openStamp, andThen, readTime, readBody, readBlock, readAt, readWord, finish, progress, advance, readWords, finished, answered, reading, Reading}
+use Rattle.recording.specs.Reading.{readDefinition, readWidth, readCode, readName, readChange, readVectorCode, openStamp, andThen}
+use Rattle.recording.specs.Reading.{readTime, readBody, readBlock, readAt, readWord, finish, progress, advance, readWords, finished}
+use Rattle.recording.specs.Reading.{answered, reading, Reading}
 use Rattle.recording.specs.Faults.{fitsIn}
 use Rattle.recording.specs.Texts.{trigger4, wholes, definitions, declared, bodies, full, fulls, meetings, readingFrom, said, saidBy}
 use Rattle.recording.specs.Texts.{held, allHeldAt, casesOf}

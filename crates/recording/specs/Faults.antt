@@ -9,7 +9,8 @@ use mathlib.Core.List.{List}
 use mathlib.Core.Bool.{Bool, true, false, not, _&&_, _||_, cond}
 use lib.Dec.{leb}
 use Rattle.recording.specs.declared.Place.{Place}
-use Rattle.recording.specs.declared.Place.the-variants.{Definition, SkipDefinition, Wire, Width, Code, Name, VarEnd, DefinitionsEnd, Body, SkipBody, BodyCode, Block, BlockCode}
+use Rattle.recording.specs.declared.Place.the-variants.{Definition, SkipDefinition, Wire, Width, Code, Name, VarEnd, DefinitionsEnd}
+use Rattle.recording.specs.declared.Place.the-variants.{Body, SkipBody, BodyCode, Block, BlockCode}
 use Rattle.recording.specs.declared.Signal.{Signal}
 use Rattle.recording.specs.declared.Fault.{Fault}
 use Rattle.recording.specs.declared.Reader.{Reader}

@@ -14,14 +14,16 @@ use lib.ListN.{length, getD}
 use lib.Dec.{ltb, leb, eqb}
 use Rattle.model.specs.declared.Command.{Command}
 use Rattle.recording.specs.declared.Place.{Place}
-use Rattle.recording.specs.declared.Place.the-variants.{Definition, SkipDefinition, Wire, Width, Code, Name, VarEnd, DefinitionsEnd, Body, SkipBody, BodyCode, Block, BlockCode}
+use Rattle.recording.specs.declared.Place.the-variants.{Definition, SkipDefinition, Wire, Width, Code, Name, VarEnd, DefinitionsEnd}
+use Rattle.recording.specs.declared.Place.the-variants.{Body, SkipBody, BodyCode, Block, BlockCode}
 use Rattle.recording.specs.declared.Signal.{Signal}
 use Rattle.recording.specs.declared.Signal.the-variants.{Stb, Cmd, Core, Arg, Prio}
 use Rattle.recording.specs.declared.Reader.{Reader}
 use Rattle.recording.specs.declared.Read.{Read}
 use Rattle.recording.specs.Words.{isText, all, any, isEmpty, Word, words}
 use Rattle.recording.specs.Values.{isDecimal, decimal, isCode, codeOf, isBit, bitOf, valueOf, vectorOf}
-use Rattle.recording.specs.Records.{start, variable, at, withWidth, withCode, withVector, withValue, declaring, withTime, refused, readWith, only}
+use Rattle.recording.specs.Records.{start, variable, at, withWidth, withCode, withVector, withValue, declaring, withTime, refused}
+use Rattle.recording.specs.Records.{readWith, only}
 use Rattle.recording.specs.Declarations.{signalOf, first, allDeclared, hasCode, declares}
 use Rattle.recording.specs.Stamps.{notGrammar, badVariable, notRising, commandsOf, endOpenStamp}
 

@@ -21,7 +21,8 @@ use Rattle.recording.specs.declared.Read.{Read}
 use Rattle.recording.specs.Words.{Word, cut}
 use Rattle.recording.specs.Records.{start}
 use Rattle.recording.specs.Stamps.{named, commandsOf}
-use Rattle.recording.specs.Reading.{isGood, finish, Progress, progress, advance, readWords, finished, readingWith, answered, reading, timesAt, timesFrom, timesOf}
+use Rattle.recording.specs.Reading.{isGood, finish, Progress, progress, advance, readWords, finished, readingWith, answered, reading}
+use Rattle.recording.specs.Reading.{timesAt, timesFrom, timesOf}
 use Rattle.vcd_reader.specs.Advances.{wordsFrom, Advances}
 use Rattle.vcd_reader.specs.declared.Advanced.{Advanced}
 use Rattle.readings.proofs.Cutting.{readWords-commands}

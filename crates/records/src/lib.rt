@@ -1,6 +1,7 @@
 // One record made, or read: what a command makes of a source or a core, and what is read off one.
 ghost use mathlib.Core.Path.{_≡_};
-ghost use Rattle.model.specs.Records.{sourceWith, withConfigured, withMask, withDelivered, opened as openedOf, ended as endedOf, boxWith, emptyBox, holding, coreWith, reset as resetOf, answer};
+ghost use Rattle.model.specs.Records.{sourceWith, withConfigured, withMask, withDelivered, opened as openedOf, ended as endedOf, boxWith};
+ghost use Rattle.model.specs.Records.{emptyBox, holding, coreWith, reset as resetOf, answer};
 ghost use Rattle.lists.specs.Numbers.{between};
 ghost use Rattle.model.specs.Priorities.{topPriority};
 ghost use Rattle.model.specs.Requests.{currentPriority, candidate};

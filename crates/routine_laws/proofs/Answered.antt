@@ -13,7 +13,8 @@ use Rattle.routines.specs.declared.Routines.{Routines}
 use Rattle.routines.specs.declared.RoutineCall.{RoutineCall}
 use Rattle.routines.specs.declared.RoutineCall.the-variants.{Direct, Enter, Exit}
 use Rattle.routines.specs.declared.RoutineAnswer.{RoutineAnswer}
-use Rattle.routines.specs.Routines.{callRefusal, entered, exited, commanded, acceptedCall, refusedCall, afterRefusedCall, routineAnswer, callRoutine, tableAfter}
+use Rattle.routines.specs.Routines.{callRefusal, entered, exited, commanded, acceptedCall, refusedCall, afterRefusedCall, routineAnswer}
+use Rattle.routines.specs.Routines.{callRoutine, tableAfter}
 use Rattle.routines.specs.Statements.{RefusedCallUnchanged, RefusedUncounted}
 
 pub accepted-number : (s : Routines) (c : RoutineCall) → (acceptedCall s c) .number ≡ 0

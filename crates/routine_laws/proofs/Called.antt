@@ -26,9 +26,12 @@ use Rattle.layout.proofs.Lists.{answers-fit}
 use Rattle.well_formed.proofs.Reset.{makes-exactly}
 use Rattle.routines.specs.declared.Routines.{Routines}
 use Rattle.routines.specs.declared.RoutineCall.{RoutineCall}
-use Rattle.routines.specs.Routines.{makeRoutines, freshRoutines, SoundRoutines, callRefusal, acceptedCall, callRoutine, Handovers, cellAt, noHandovers, tableAfter, runRoutines, runTable}
+use Rattle.routines.specs.Routines.{makeRoutines, freshRoutines, SoundRoutines, callRefusal, acceptedCall, callRoutine, Handovers, cellAt}
+use Rattle.routines.specs.Routines.{noHandovers, tableAfter, runRoutines, runTable}
 use Rattle.routines.specs.History.{Event, eventOf, historyAfter}
-use Rattle.routines.specs.Calls.{oneCall, callOf, callsIn, routinesIn, isSimulation, tableSize, tableIn, tableWords, packedCall, memoryWith, memoryOf, fitsMake, makeRoutinesCall, calledOn, routineCall, simulateCallOf, fitsSimulate, callAnswers, callAnswerBytes, simulated, simulateCall}
+use Rattle.routines.specs.Calls.{oneCall, callOf, callsIn, routinesIn, isSimulation, tableSize, tableIn, tableWords, packedCall, memoryWith}
+use Rattle.routines.specs.Calls.{memoryOf, fitsMake, makeRoutinesCall, calledOn, routineCall, simulateCallOf, fitsSimulate, callAnswers}
+use Rattle.routines.specs.Calls.{callAnswerBytes, simulated, simulateCall}
 use Rattle.routines.specs.Statements.{NoneFilled, StrictlyRun}
 use Rattle.routines.specs.CallStatements.{eventsIn, Simulated, simulatedFresh, RefusedCallKeeps, RefusedSimulateKeeps, SimulateStrict}
 use Rattle.routine_laws.proofs.Answered.{accepted-number, by-call, handed-back}

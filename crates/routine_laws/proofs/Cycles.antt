@@ -34,7 +34,8 @@ use Rattle.effects.proofs.AtRest.{claim-answer}
 use Rattle.routines.specs.declared.Routines.{Routines}
 use Rattle.routines.specs.declared.RoutineCall.{RoutineCall}
 use Rattle.routines.specs.declared.RoutineCall.the-variants.{Direct, Enter, Exit}
-use Rattle.routines.specs.Routines.{activeAt, SoundRoutines, commandOf, callRefusal, claimOn, handBack, entered, completeOn, exited, commanded, acceptedCall}
+use Rattle.routines.specs.Routines.{activeAt, SoundRoutines, commandOf, callRefusal, claimOn, handBack, entered, completeOn, exited}
+use Rattle.routines.specs.Routines.{commanded, acceptedCall}
 use Rattle.routines.specs.Statements.{EntryTakesNoCycle, CallCyclesBounded}
 use Rattle.routine_laws.proofs.Answered.{by-call}
 use Rattle.routine_laws.proofs.Standing.{sound-accepted, enter-checked, exit-checked}

@@ -21,7 +21,8 @@ use Rattle.effects.proofs.Kept.{wellFormed-kept}
 use Rattle.routines.specs.declared.Routines.{Routines}
 use Rattle.routines.specs.declared.DirectAction.{DirectAction}
 use Rattle.routines.specs.declared.DirectAction.the-variants.{SetPriority, Mask, Unmask, Trigger}
-use Rattle.routines.specs.Routines.{activeAt, holderAt, activeIndex, routinesWith, Runs, SoundRoutines, actionOf, commandOf, holderAfter, commanded}
+use Rattle.routines.specs.Routines.{activeAt, holderAt, activeIndex, routinesWith, Runs, SoundRoutines, actionOf, commandOf, holderAfter}
+use Rattle.routines.specs.Routines.{commanded}
 use Rattle.routine_laws.proofs.After.{SourceStep, source-step}
 use Rattle.routine_laws.proofs.Standing.{running, same-core, idle-at-zero, active-le}
 use Rattle.routine_laws.proofs.Switch.{Stays, TakenBy, switch-sound}

@@ -6,7 +6,8 @@ use mathlib.Core.List.{List, [], _∷_}
 use Rattle.routines.specs.declared.Routines.{Routines}
 use Rattle.routines.specs.declared.RoutineCall.{RoutineCall}
 use Rattle.routines.specs.declared.RoutineCall.the-variants.{Direct, Enter, Exit}
-use Rattle.routines.specs.Routines.{commandOf, SoundRoutines, callRefusalOf, callRefusal, acceptedCall, afterRefusedCall, callRoutine, runRoutines}
+use Rattle.routines.specs.Routines.{commandOf, SoundRoutines, callRefusalOf, callRefusal, acceptedCall, afterRefusedCall, callRoutine}
+use Rattle.routines.specs.Routines.{runRoutines}
 use Rattle.routines.specs.Statements.{RoutinesKept}
 use Rattle.routine_laws.proofs.Answered.{by-call}
 use Rattle.routine_laws.proofs.Standing.{sound-accepted, enter-checked, exit-checked, command-accepted}

@@ -25,7 +25,9 @@ use Rattle.routines.specs.declared.DirectAction.{DirectAction}
 use Rattle.routines.specs.declared.DirectAction.the-variants.{SetPriority, Mask, Unmask, Trigger}
 use Rattle.routines.specs.declared.RoutineCall.{RoutineCall}
 use Rattle.routines.specs.declared.RoutineCall.the-variants.{Direct, Enter, Exit}
-use Rattle.routines.specs.Routines.{holderAt, commandOf, idleBeside, freshRoutines, SoundRoutines, callRefusalOf, callRefusal, claimOn, entered, exited, commanded, acceptedCall, afterRefusedCall, callRoutine, Handovers, cellAt, noHandovers, mostHandovers, oneMore, boxHolder, counted, tableAfter, runRoutines, runTable}
+use Rattle.routines.specs.Routines.{holderAt, commandOf, idleBeside, freshRoutines, SoundRoutines, callRefusalOf, callRefusal, claimOn}
+use Rattle.routines.specs.Routines.{entered, exited, commanded, acceptedCall, afterRefusedCall, callRoutine, Handovers, cellAt, noHandovers}
+use Rattle.routines.specs.Routines.{mostHandovers, oneMore, boxHolder, counted, tableAfter, runRoutines, runTable}
 use Rattle.routines.specs.History.{Event, heldBy, lastHolder, passesOn, handovers, eventOf, eventWith, historyAfter, history}
 use Rattle.routines.specs.Statements.{TableIsHistory, DiagonalZero}
 use Rattle.routine_laws.proofs.Answered.{by-call}

@@ -16,13 +16,15 @@ use Rattle.lists.specs.Walks.{tally, every}
 use Rattle.lists.proofs.Bools.{clash, refuted}
 use Rattle.lists.proofs.Walks.{Witness, some-out, some-false-in}
 use Rattle.lists.proofs.Tallies.{tally-on, tally-rising, within-level, rise-within}
-use Rattle.lists.proofs.Exact.{Exact, _and_, flag-exact, leb-exact, ltb-exact, eqb-exact, between-exact, unless-exact, implies-exact, every-exact}
+use Rattle.lists.proofs.Exact.{Exact, _and_, flag-exact, leb-exact, ltb-exact, eqb-exact, between-exact, unless-exact, implies-exact}
+use Rattle.lists.proofs.Exact.{every-exact}
 use Rattle.model.specs.declared.Controller.{Controller}
 use Rattle.model.specs.Records.{maxSources, maxCores, sourceAt, coreAt}
 use Rattle.model.specs.Requests.{claimed}
 use Rattle.well_formed.proofs.Test.{test-exact}
 use Rattle.routines.specs.declared.Routines.{Routines}
-use Rattle.routines.specs.Routines.{activeAt, holderAt, routineLists, activeOn, activeOnce, activeIndex, runs, atItsPriority, lastHeldThere, othersIdle, holdersInside, soundRoutines, Runs, RunsOnce, IdleAt}
+use Rattle.routines.specs.Routines.{activeAt, holderAt, routineLists, activeOn, activeOnce, activeIndex, runs, atItsPriority, lastHeldThere}
+use Rattle.routines.specs.Routines.{othersIdle, holdersInside, soundRoutines, Runs, RunsOnce, IdleAt}
 use Rattle.routines.specs.Statements.{RoutinesTestExact}
 
 -- ---- exactly one

@@ -31,7 +31,8 @@ use Rattle.routines.specs.declared.RoutineCall.the-variants.{Direct, Enter, Exi
 use Rattle.routines.specs.declared.DecodedCall.{DecodedCall}
 use Rattle.routines.specs.declared.DecodedCall.the-variants.{Unnamed, Named}
 use Rattle.routines.specs.Routines.{callRefusal, callRoutine, Handovers, boxHolder, counted, tableAfter}
-use Rattle.routines.specs.Calls.{oneCall, callOf, routinesIn, isSimulation, tableSize, tableIn, tableWords, DoesSimulate, fitsSimulate, simulateCall}
+use Rattle.routines.specs.Calls.{oneCall, callOf, routinesIn, isSimulation, tableSize, tableIn, tableWords, DoesSimulate, fitsSimulate}
+use Rattle.routines.specs.Calls.{simulateCall}
 use Rattle.routine_laws.proofs.Standing.{sound-accepted, enter-checked}
 use Rattle.routine_laws.proofs.Called.{Counting, counting, routinesMachine}
 use Rattle.routine_steps.specs.declared.Stepped.{Stepped}

@@ -36,7 +36,8 @@ use Rattle.routines.specs.declared.Routines.{Routines}
 use Rattle.routines.specs.declared.DirectAction.{DirectAction}
 use Rattle.routines.specs.declared.RoutineCall.{RoutineCall}
 use Rattle.routines.specs.declared.RoutineCall.the-variants.{Direct, Enter, Exit}
-use Rattle.routines.specs.Routines.{activeAt, actionOf, commandOf, holderAfter, commanded, claimOn, handBack, entered, completeOn, lower, exited, callRefusal, refusedCall, afterRefusedCall, callRoutine}
+use Rattle.routines.specs.Routines.{activeAt, actionOf, commandOf, holderAfter, commanded, claimOn, handBack, entered, completeOn, lower}
+use Rattle.routines.specs.Routines.{exited, callRefusal, refusedCall, afterRefusedCall, callRoutine}
 use Rattle.routines.specs.Calls.{routinesIn}
 use Rattle.routine_laws.proofs.Answered.{call-accepted, call-refused}
 use Rattle.routine_laws.proofs.Standing.{sound-accepted, enter-checked}

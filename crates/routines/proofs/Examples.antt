@@ -6,9 +6,12 @@ use Rattle.lists.specs.Walks.{tally}
 use Rattle.model.proofs.Examples.{computed as run-computed}
 use Rattle.routines.specs.declared.Routines.{Routines}
 use Rattle.routines.specs.declared.RoutineCall.{RoutineCall}
-use Rattle.routines.specs.Routines.{routineLists, activeOnce, atItsPriority, lastHeldThere, othersIdle, holdersInside, soundRoutines, callRefusalOf, callRefusal, entered, exited, commanded, callRoutine, counted, tableAfter, runRoutines, runTable}
+use Rattle.routines.specs.Routines.{routineLists, activeOnce, atItsPriority, lastHeldThere, othersIdle, holdersInside, soundRoutines}
+use Rattle.routines.specs.Routines.{callRefusalOf, callRefusal, entered, exited, commanded, callRoutine, counted, tableAfter}
+use Rattle.routines.specs.Routines.{runRoutines, runTable}
 use Rattle.routines.specs.History.{lastHolder, handovers, historyAfter}
-use Rattle.routines.specs.Cases.{begun, passes, allPass, runCases, RoutineClausesAreTest, one, refusedByOne, breaksJust, allBreak, brokenCases, allTell, historyCases, HeldCells}
+use Rattle.routines.specs.Cases.{begun, passes, allPass, runCases, RoutineClausesAreTest, one, refusedByOne, breaksJust, allBreak}
+use Rattle.routines.specs.Cases.{brokenCases, allTell, historyCases, HeldCells}
 
 -- To open this name is to open every definition that a run of the routines computes with.
 unfoldable pub computed : Routines → List RoutineCall → Routines

@@ -18,7 +18,8 @@ use Rattle.routines.specs.declared.RoutineCall.{RoutineCall}
 use Rattle.routines.specs.Routines.{mostHandovers}
 use Rattle.routines.specs.History.{Event, eventWith, handovers}
 use Rattle.routines.specs.Statements.{NoneFilled, StrictlyRun}
-use Rattle.routines.specs.Calls.{callsIn, routinesIn, tableSize, RoutineMemory, memoryWith, fitsMake, makeRoutinesCall, routineCall, SimulateCall, simulateCallOf, simulateCall}
+use Rattle.routines.specs.Calls.{callsIn, routinesIn, tableSize, RoutineMemory, memoryWith, fitsMake, makeRoutinesCall, routineCall}
+use Rattle.routines.specs.Calls.{SimulateCall, simulateCallOf, simulateCall}
 
 abbrev pub RefusedCallKeeps : Type 0
 RefusedCallKeeps =

@@ -20,7 +20,9 @@ use Rattle.routines.specs.declared.DirectAction.the-variants.{SetPriorit
 use Rattle.routines.specs.declared.RoutineCall.{RoutineCall}
 use Rattle.routines.specs.declared.RoutineCall.the-variants.{Direct, Enter, Exit}
 use Rattle.routines.specs.declared.RoutineAnswer.{RoutineAnswer}
-use Rattle.routines.specs.Routines.{activeAt, routinesWith, withController, idleBeside, routineLists, activeOnce, atItsPriority, lastHeldThere, othersIdle, holdersInside, soundRoutines, callRoutine, Handovers, cellAt, noHandovers, runRoutines, runTable, raised}
+use Rattle.routines.specs.Routines.{activeAt, routinesWith, withController, idleBeside, routineLists, activeOnce, atItsPriority}
+use Rattle.routines.specs.Routines.{lastHeldThere, othersIdle, holdersInside, soundRoutines, callRoutine, Handovers, cellAt}
+use Rattle.routines.specs.Routines.{noHandovers, runRoutines, runTable, raised}
 use Rattle.routines.specs.History.{Event, eventWith, lastHolder, handovers, history}
 
 -- ---- the calls, by numbers

@@ -18,7 +18,9 @@ use Rattle.routines.specs.declared.DirectAction.the-variants.{SetPriorit
 use Rattle.routines.specs.declared.RoutineCall.{RoutineCall}
 use Rattle.routines.specs.declared.RoutineCall.the-variants.{Direct, Enter, Exit}
 use Rattle.routines.specs.declared.RoutineAnswer.{RoutineAnswer}
-use Rattle.routines.specs.Routines.{activeAt, freshRoutines, soundRoutines, Runs, IdleAt, SoundRoutines, claimOn, handBack, completeOn, lower, afterRefusedCall, routineAnswer, callRefusal, callRoutine, Handovers, cellAt, noHandovers, mostHandovers, tableAfter, runRoutines, runTable}
+use Rattle.routines.specs.Routines.{activeAt, freshRoutines, soundRoutines, Runs, IdleAt, SoundRoutines, claimOn, handBack}
+use Rattle.routines.specs.Routines.{completeOn, lower, afterRefusedCall, routineAnswer, callRefusal, callRoutine, Handovers, cellAt}
+use Rattle.routines.specs.Routines.{noHandovers, mostHandovers, tableAfter, runRoutines, runTable}
 use Rattle.routines.specs.History.{handovers, history}
 
 -- ---- soundness

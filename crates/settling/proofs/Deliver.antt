@@ -15,11 +15,13 @@ use Rattle.model.specs.Settling.{deliver}
 use Rattle.lists.proofs.Bools.{clash}
 use Rattle.model.specs.WellFormed.{Holding, Consistent}
 use Rattle.settling.specs.Phases.{Delivering}
-use Rattle.settling.proofs.Writes.{Names, names?, putBackAt-named, putBackAt-unnamed, putBackAt-undelivered, delivered-to, core-deliver-same, core-deliver-other, source-deliver-same, source-deliver-other}
+use Rattle.settling.proofs.Writes.{Names, names?, putBackAt-named, putBackAt-unnamed, putBackAt-undelivered, delivered-to}
+use Rattle.settling.proofs.Writes.{core-deliver-same, core-deliver-other, source-deliver-same, source-deliver-other}
 use Rattle.settling.proofs.Keeps.{deliver-keeps, kept-n, kept-pending, kept-priority}
 use Rattle.settling.proofs.OneBox.{BoxWritten, BoxFits, each-core, box-written-consistent}
 use Rattle.settling.proofs.OneBoxClaims.{MarksFollow, box-written-claimed}
-use Rattle.settling.proofs.Arbitrated.{Arbitrated, CandidateBefore, stayed, evicted, index-in, number-in, was-pending, was-undelivered, not-held, configured-le-current}
+use Rattle.settling.proofs.Arbitrated.{Arbitrated, CandidateBefore, stayed, evicted, index-in, number-in, was-pending}
+use Rattle.settling.proofs.Arbitrated.{was-undelivered, not-held, configured-le-current}
 
 module _ {s : Controller} {i k : ℕ} (a : Arbitrated s i k) where
   mark-same : (sourceAt (deliver s i k) i) .delivered ≡ true

@@ -16,7 +16,8 @@ use Rattle.model.specs.Records.{resetSource, emptyBox, indexOf, withDelivered, 
 use Rattle.model.specs.WellFormed.{Holding, Consistent}
 use Rattle.settling.specs.Phases.{Kept}
 use Rattle.settling.proofs.Writes.{BoxFilled, Names}
-use Rattle.settling.proofs.Keeps.{kept-n, kept-m, kept-sources-length, kept-cores-length, kept-source, kept-configured, kept-pending, kept-priority, kept-core-configured}
+use Rattle.settling.proofs.Keeps.{kept-n, kept-m, kept-sources-length, kept-cores-length, kept-source, kept-configured, kept-pending}
+use Rattle.settling.proofs.Keeps.{kept-priority, kept-core-configured}
 
 -- without its mark, a source that is not delivered is what it was
 unmarked-is : (r : Source) → r .delivered ≡ false → withDelivered false r ≡ r

@@ -10,7 +10,8 @@ use Rattle.model.specs.Requests.{claimed}
 use Rattle.model.specs.Settling.{retract}
 use Rattle.model.specs.WellFormed.{Consistent}
 use Rattle.settling.specs.Phases.{AllDirty}
-use Rattle.settling.proofs.Writes.{putBackAt-named, putBackAt-unnamed, putBackAt-undelivered, core-retract-same, core-retract-other, source-retract}
+use Rattle.settling.proofs.Writes.{putBackAt-named, putBackAt-unnamed, putBackAt-undelivered, core-retract-same, core-retract-other}
+use Rattle.settling.proofs.Writes.{source-retract}
 use Rattle.settling.proofs.Keeps.{retract-keeps}
 use Rattle.settling.proofs.OneBox.{BoxWritten, BoxFits, each-core, box-written-consistent}
 use Rattle.settling.proofs.OneBoxClaims.{MarksFollow, box-written-claimed}

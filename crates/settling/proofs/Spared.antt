@@ -26,7 +26,8 @@ use Rattle.settling.proofs.Arbitrated.{Arbitrated, number-in, configure
 use Rattle.settling.proofs.Deliver.{deliver-consistent, deliver-delivering}
 use Rattle.settling.proofs.Retract.{retract-consistent, retract-allDirty}
 use Rattle.settling.proofs.Retractions.{clean-delivering}
-use Rattle.settling.proofs.Next.{Contest, Next, resting, retracting, arbitrating, lowCore, topSource, interrupts, next-cases, next-clean}
+use Rattle.settling.proofs.Next.{Contest, Next, resting, retracting, arbitrating, lowCore, topSource, interrupts, next-cases}
+use Rattle.settling.proofs.Next.{next-clean}
 use Rattle.settling.proofs.Run.{cycle-is}
 
 abbrev pub FilledFirst : Controller → ℕ → Type 0

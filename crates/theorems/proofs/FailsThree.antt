@@ -12,7 +12,8 @@ use lib.ListN.{getD, take}
 use lib.Dec.{leb, eqb}
 use borrow.Author.Tests.{eqb-false, le-leb, ltb-true}
 use Rattle.lists.proofs.Bools.{clash}
-use Rattle.model.specs.Ledger.{paired, Ledger, opening, post, postAccepted, ledger, competes, collection, given, inBoxes, currentPriorities, requestPriority, Placement, placedBy, filledBoxes, entriesBy}
+use Rattle.model.specs.Ledger.{paired, Ledger, opening, post, postAccepted, ledger, competes, collection, given, inBoxes, currentPriorities}
+use Rattle.model.specs.Ledger.{requestPriority, Placement, placedBy, filledBoxes, entriesBy}
 use Rattle.lists.specs.Sorting.{insertDown, sortDown}
 use Rattle.lists.specs.Rows.{row}
 use Rattle.lists.specs.Walks.{tally}

@@ -14,7 +14,8 @@ use Rattle.model.specs.declared.Decoded.{Decoded}
 use Rattle.model.specs.declared.Decoded.the-variants.{Unknown, Known}
 use Rattle.model.specs.Commands.{execute, make}
 use Rattle.layout.specs.Commands.{commandOf}
-use Rattle.layout.specs.Bytes.{stateSize, stateBytes, stateFrom, isState, commandsIn, answerSize, numberIn, Call, makeCall, executedOn, executeCall, noCount, roomFor, fitsRun}
+use Rattle.layout.specs.Bytes.{stateSize, stateBytes, stateFrom, isState, commandsIn, answerSize, numberIn, Call, makeCall, executedOn}
+use Rattle.layout.specs.Bytes.{executeCall, noCount, roomFor, fitsRun}
 use Rattle.layout.specs.Statements.{AreBytes}
 use Rattle.layout.proofs.RoundTrip.{bytes-written-back}
 use Rattle.layout.specs.CallStatements.{RefusedMakeKeeps, RefusedExecuteKeeps, RefusedRunKeeps, AllRefusedKeeps, RestKept, RunKeepsRest}

@@ -21,7 +21,8 @@ use Rattle.model.specs.Settling.{settle}
 use Rattle.model.specs.Commands.{claimedCore, effect, refusal, answeredId, settled, refused}
 use Rattle.model.specs.Ledger.{Ledger, postAccepted, post}
 use Rattle.settling.specs.Phases.{Kept}
-use Rattle.settling.proofs.Keeps.{kept-n, kept-m, kept-configured, kept-masked, kept-pending, kept-priority, kept-core-configured, settling-leaves-bare}
+use Rattle.settling.proofs.Keeps.{kept-n, kept-m, kept-configured, kept-masked, kept-pending, kept-priority, kept-core-configured}
+use Rattle.settling.proofs.Keeps.{settling-leaves-bare}
 use Rattle.effects.proofs.Accepted.{by-answer}
 use Rattle.effects.proofs.Checked.{Named, Checked, by-index, accepted}
 use Rattle.model.proofs.Claims.{claimed-out}

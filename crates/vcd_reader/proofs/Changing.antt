@@ -26,10 +26,12 @@ use Rattle.recording.specs.declared.Vector.{Vector}
 use Rattle.recording.specs.declared.Reader.{Reader}
 use Rattle.recording.specs.Words.{separator, wordAt, all}
 use Rattle.recording.specs.Values.{isBit, isDefinite, bitOf, bitNumber, numeral, valueOf, vectorOf, codeOf}
-use Rattle.recording.specs.Records.{variable, variableOf, variableWith, withVariableOf, stampWith, withStamp, at, withVector, withUp, withTime, readWith, only}
+use Rattle.recording.specs.Records.{variable, variableOf, variableWith, withVariableOf, stampWith, withStamp, at, withVector, withUp}
+use Rattle.recording.specs.Records.{withTime, readWith, only}
 use Rattle.recording.specs.Declarations.{hasCode}
 use Rattle.recording.specs.Stamps.{isReadable, strobeOf, endStamp, endOpenStamp}
-use Rattle.recording.specs.Reading.{readWord, readAt, readBody, readBlock, readChange, isVector, vectorSignal, readVectorCode, isTime, timeOf, openStamp, andThen, readTime}
+use Rattle.recording.specs.Reading.{readWord, readAt, readBody, readBlock, readChange, isVector, vectorSignal, readVectorCode, isTime}
+use Rattle.recording.specs.Reading.{timeOf, openStamp, andThen, readTime}
 use Rattle.vcd_words.specs.declared.Number.{Number}
 use Rattle.vcd_words.specs.Partial.{numberWith, moreBits}
 use Rattle.vcd_words.proofs.Bytes.{above-separators, run-more}
@@ -42,7 +44,8 @@ use Rattle.vcd_reader.specs.declared.Timed.{Timed}
 use Rattle.vcd_reader.specs.Advances.{Follows}
 use Rattle.vcd_reader.specs.Runs.{wordFrom, timedWith, BitsThere, CodeThere, TimeThere, Skips}
 use Rattle.vcd_reader.specs.Skipping.{changePlace}
-use Rattle.vcd_reader.specs.Changes.{givenWith, bitsVector, placedWith, withVariables, changedTo, CodedVector, VectorThere, Places, QuietTime, withLevel, afterCommand, Takes}
+use Rattle.vcd_reader.specs.Changes.{givenWith, bitsVector, placedWith, withVariables, changedTo, CodedVector, VectorThere, Places}
+use Rattle.vcd_reader.specs.Changes.{QuietTime, withLevel, afterCommand, Takes}
 use Rattle.vcd_reader.proofs.Follows.{follows-then, follows-passes, follows-skips, follows-word, word-within}
 use Rattle.vcd_reader.proofs.Reaching.{word-inside, word-starts, other-byte, bit-range, no-time}
 

@@ -24,7 +24,8 @@ use Rattle.vcd_reader.specs.declared.Ended.{Ended}
 use Rattle.vcd_reader.specs.declared.Turned.{Turned}
 use Rattle.vcd_reader.specs.Advances.{Follows}
 use Rattle.vcd_reader.specs.Runs.{wordFrom, Skips}
-use Rattle.vcd_reader.specs.Skipping.{endedWith, Spelled, opensBlock, Passes, PassedBy, SkipsTo, ToEnd, changePlace, turnedWith, Turns}
+use Rattle.vcd_reader.specs.Skipping.{endedWith, Spelled, opensBlock, Passes, PassedBy, SkipsTo, ToEnd, changePlace, turnedWith}
+use Rattle.vcd_reader.specs.Skipping.{Turns}
 use Rattle.vcd_reader.proofs.Follows.{follows-then, follows-skips, follows-word, word-moves}
 use Rattle.vcd_reader.proofs.Reaching.{word-inside, word-starts}
 

@@ -17,7 +17,8 @@ use Rattle.recording.specs.declared.Variables.{Variables}
 use Rattle.recording.specs.declared.Reader.{Reader}
 use Rattle.recording.specs.Words.{separator, wordAt}
 use Rattle.recording.specs.Values.{value, unknown, vectorWith, vectorOf, codeOf}
-use Rattle.recording.specs.Records.{variableWith, withVariableOf, readerWith, pendingWith, stampWith, at, withUp, withTaken, withTime, readWith}
+use Rattle.recording.specs.Records.{variableWith, withVariableOf, readerWith, pendingWith, stampWith, at, withUp, withTaken, withTime}
+use Rattle.recording.specs.Records.{readWith}
 use Rattle.recording.specs.Stamps.{strobeOf}
 use Rattle.recording.specs.Reading.{isVector, vectorSignal, readVectorCode, isTime, timeOf, readTime}
 use Rattle.vcd_words.specs.Partial.{bitValue}

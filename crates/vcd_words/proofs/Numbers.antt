@@ -20,7 +20,8 @@ use Rattle.recording.specs.Values.{isDigit, isBit, isDefinite, bitOf, bitNumber
 use Rattle.recording.specs.Reading.{maxTime}
 use Rattle.vcd_words.specs.declared.Number.{Number}
 use Rattle.vcd_words.specs.declared.Partial.{Partial}
-use Rattle.vcd_words.specs.Partial.{run, between, spellHigh, spellLow, numberWith, notNumber, withDigit, moreDigits, withBit, moreBits, begunWith, countedOf, partialWith, extendedBy}
+use Rattle.vcd_words.specs.Partial.{run, between, spellHigh, spellLow, numberWith, notNumber, withDigit, moreDigits, withBit}
+use Rattle.vcd_words.specs.Partial.{moreBits, begunWith, countedOf, partialWith, extendedBy}
 
 pub digit-range : (b : ℕ) → isDigit b ≡ true → (48 ≤ b) × (b ≤ 57)
 digit-range b e = (leb-true 48 b (and-l (leb 48 b) (leb b 57) e), leb-true b 57 (and-r (leb 48 b) (leb b 57) e))

@@ -14,7 +14,8 @@ use Rattle.lists.proofs.Bools.{and-l, and-r, and-in, Flag, on, off, flag, refut
 use Rattle.recording.specs.Words.{bytesOf, sameBytes, all}
 use Rattle.recording.specs.Values.{numeral}
 use Rattle.vcd_words.specs.declared.Keyword.{Keyword}
-use Rattle.vcd_words.specs.declared.Keyword.the-variants.{Date, Version, Comment, Timescale, Scope, Upscope, Var, EndDefinitions, End, DumpVars, DumpAll, DumpOn, DumpOff, Wire, Stb, Cmd, Core, Arg, Prio}
+use Rattle.vcd_words.specs.declared.Keyword.the-variants.{Date, Version, Comment, Timescale, Scope, Upscope, Var, EndDefinitions, End}
+use Rattle.vcd_words.specs.declared.Keyword.the-variants.{DumpVars, DumpAll, DumpOn, DumpOff, Wire, Stb, Cmd, Core, Arg, Prio}
 use Rattle.vcd_words.proofs.Bytes.{top-byte}
 use Rattle.vcd_words.specs.Partial.{seven, lowAfter, highAfter, spellHigh, spellLow, textOf}
 

@@ -22,7 +22,8 @@ use Rattle.vcd_words.specs.declared.Named.the-variants.{Of, Nothing}
 use Rattle.vcd_words.specs.declared.Partial.{Partial}
 use Rattle.vcd_words.specs.declared.Spelling.{Spelling}
 use Rattle.vcd_words.specs.declared.Keyword.{Keyword}
-use Rattle.vcd_words.specs.declared.Keyword.the-variants.{Date, Version, Comment, Timescale, Scope, Upscope, Var, EndDefinitions, End, DumpVars, DumpAll, DumpOn, DumpOff, Wire, Stb, Cmd, Core, Arg, Prio}
+use Rattle.vcd_words.specs.declared.Keyword.the-variants.{Date, Version, Comment, Timescale, Scope, Upscope, Var, EndDefinitions, End}
+use Rattle.vcd_words.specs.declared.Keyword.the-variants.{DumpVars, DumpAll, DumpOn, DumpOff, Wire, Stb, Cmd, Core, Arg, Prio}
 
 abbrev pub run : List ℕ → List ℕ
 run [] = []

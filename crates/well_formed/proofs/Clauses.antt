@@ -8,9 +8,11 @@ use Rattle.model.specs.declared.MessageBox.{MessageBox}
 use Rattle.model.specs.declared.Core.{Core}
 use Rattle.model.specs.declared.Controller.{Controller}
 use Rattle.model.specs.Records.{maxSources, maxCores, resetSource, resetCore, emptyBox, indexOf, sourceAt, sourceId, coreWith}
-use Rattle.model.specs.WellFormed.{sizesInRange, sourceInRange, isEmptyBox, coreInRange, isResetSource, isResetCore, backedBy, isBacked, sameSource, Holding}
+use Rattle.model.specs.WellFormed.{sizesInRange, sourceInRange, isEmptyBox, coreInRange, isResetSource, isResetCore, backedBy, isBacked}
+use Rattle.model.specs.WellFormed.{sameSource, Holding}
 use Rattle.model.specs.Statements.{InRange}
-use Rattle.lists.proofs.Exact.{Exact, _and_, flag-exact, not-exact, leb-exact, ltb-exact, eqb-exact, between-exact, unless-exact, implies-exact}
+use Rattle.lists.proofs.Exact.{Exact, _and_, flag-exact, not-exact, leb-exact, ltb-exact, eqb-exact, between-exact, unless-exact}
+use Rattle.lists.proofs.Exact.{implies-exact}
 
 pub sizes-exact : (n m : ℕ) → Exact (sizesInRange n m) (InRange n m)
 unfolding sizesInRange

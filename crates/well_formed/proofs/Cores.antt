@@ -25,7 +25,8 @@ use Rattle.lists.proofs.Bools.{clash}
 use Rattle.model.proofs.Boxes.{holds-in, unboxed-out}
 use Rattle.well_formed.specs.Survey.{inconsistentSurvey}
 use Rattle.well_formed.specs.Loops.{coreFits, backs, coreSound, spareCore, coresSound, coresTo, coresSurvey}
-use Rattle.lists.proofs.Exact.{Exact, _and_, flag-exact, eqb-exact, ltb-exact, between-exact, unless-exact, implies-exact, refuted-exact, from-exact, every-exact, refused}
+use Rattle.lists.proofs.Exact.{Exact, _and_, flag-exact, eqb-exact, ltb-exact, between-exact, unless-exact, implies-exact, refuted-exact}
+use Rattle.lists.proofs.Exact.{from-exact, every-exact, refused}
 use Rattle.well_formed.proofs.Clauses.{CoreFits, core-exact, reset-core-exact, backed-exact, SameSource, same-source-exact}
 
 -- the core is in range, and a filled box names one of n sources

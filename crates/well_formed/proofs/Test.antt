@@ -5,7 +5,9 @@
 --   layers-exact                     the same of each layer
 --   consistent-exact, frugal-exact   the first and the last of them
 use Rattle.model.specs.Statements.{LayersExact, TestExact}
-use Rattle.model.specs.WellFormed.{Frugal, frugal, Quiet, quiet, consistent, Consistent, Clean, listsWhole, sourcesInRange, coresInRange, sparesReset, boxesBacked, boxesDistinct, boxesClean, candidatesSettled, coveredSettled, wellFormed, WellFormed, Holding}
+use Rattle.model.specs.WellFormed.{Frugal, frugal, Quiet, quiet, consistent, Consistent, Clean, listsWhole, sourcesInRange, coresInRange}
+use Rattle.model.specs.WellFormed.{sparesReset, boxesBacked, boxesDistinct, boxesClean, candidatesSettled, coveredSettled, wellFormed}
+use Rattle.model.specs.WellFormed.{WellFormed, Holding}
 use Prim.Native.Nat.{ℕ, _<_, _≤_}
 use mathlib.Core.Path.{_≡_, sym}
 use mathlib.Core.Logic.{_↔_, Iff·trans}
@@ -24,8 +26,10 @@ use Rattle.model.specs.Requests.{currentPriority, candidate}
 use Rattle.model.specs.Arbitration.{least, leastPriority}
 use Rattle.arbitration.proofs.LeastCore.{least-le, least-below}
 use Rattle.lists.proofs.Bools.{and-in, and-l, and-r}
-use Rattle.lists.proofs.Exact.{Exact, _and_, not-exact, leb-exact, ltb-exact, eqb-exact, refuted-exact, implies-exact, from-exact, every-exact}
-use Rattle.well_formed.proofs.Clauses.{sizes-exact, SourceFits, source-exact, CoreFits, core-exact, reset-source-exact, reset-core-exact, backed-exact, SameSource, same-source-exact}
+use Rattle.lists.proofs.Exact.{Exact, _and_, not-exact, leb-exact, ltb-exact, eqb-exact, refuted-exact, implies-exact, from-exact}
+use Rattle.lists.proofs.Exact.{every-exact}
+use Rattle.well_formed.proofs.Clauses.{sizes-exact, SourceFits, source-exact, CoreFits, core-exact, reset-source-exact}
+use Rattle.well_formed.proofs.Clauses.{reset-core-exact, backed-exact, SameSource, same-source-exact}
 
 -- a symmetric relation holds between no two numbers below m if it holds from none to a larger one
 module _ (m : ℕ) (R : ℕ → ℕ → Type 0) (turn : (j k : ℕ) → R j k → R k j) where

@@ -15,7 +15,8 @@ use Rattle.model.specs.Requests.{currentPriority}
 use Rattle.model.specs.Arbitration.{leastPriority}
 use Rattle.model.specs.WellFormed.{sourceInRange, coreInRange, isResetSource, isResetCore, isBacked, sameSource}
 use Rattle.well_formed.specs.declared.Surveyed.{Surveyed}
-use Rattle.well_formed.specs.Survey.{surveyWith, inconsistentSurvey, coveredPriority, boxedPriority, greatestCovered, lowestBoxed, greatestWaiting}
+use Rattle.well_formed.specs.Survey.{surveyWith, inconsistentSurvey, coveredPriority, boxedPriority, greatestCovered, lowestBoxed}
+use Rattle.well_formed.specs.Survey.{greatestWaiting}
 
 -- A source without a request.
 unfoldable pub isIdle : Source → Bool

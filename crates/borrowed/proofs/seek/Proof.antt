@@ -25,7 +25,8 @@ use prog.Wp.{Heap, WpFn, Tables}
 use ghost.Atoms.{Atoms}
 use contract.Monad.{Fun, fact}
 use contract.Running.{givenOf, tables, tablesOf}
-use types.Kit.{Given, Sq, runs, anyQ, atRet, ‵, raw, _⊛_, _$_, _∵_, !, qed, move, keep, drop, use1, split, pick, rewrite, fsplit, fjoin, fpack, await}
+use types.Kit.{Given, Sq, runs, anyQ, atRet, ‵, raw, _⊛_, _$_, _∵_, !, qed, move, keep, drop, use1, split, pick, rewrite, fsplit, fjoin}
+use types.Kit.{fpack, await}
 use types.Run.{init, lit, of-opd, and-then, no-more, first, blocks, loops, enter, alloc1, alloc0, params1, pass1, pass0}
 use types.Part.{whole, sub, rep}
 use types.Share.{arr-parts}
@@ -75,7 +76,8 @@ use Rattle.borrowed.proofs.seek as seek
 use Rattle.borrowed.proofs.seek.Statement as stated
 use Rattle.borrowed.proofs.seek.Code as code
 use Rattle.borrowed.proofs.seek.Code.Mir as mir
-use Rattle.borrowed.proofs.seek.Proof.Callees.{Row, ExtentOf, Rank, Search, to-extent, asks-extent, gives-extent, goes-extent, extent-said}
+use Rattle.borrowed.proofs.seek.Proof.Callees.{Row, ExtentOf, Rank, Search, to-extent, asks-extent, gives-extent, goes-extent}
+use Rattle.borrowed.proofs.seek.Proof.Callees.{extent-said}
 use Rattle.borrowed.proofs.seek.Proof.Frame.{stayed, extents, Blocks, En, v, Own, At, Post, Left, Turns}
 use Rattle.borrowed.proofs.seek.Proof.Turn.{sources, copies}
 use Rattle.borrowed.proofs.seek.Proof.Ending.{leaves}

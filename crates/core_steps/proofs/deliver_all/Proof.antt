@@ -8,7 +8,8 @@ use Rattle.model.specs.Records.{sourceAt, coreAt}
 use Rattle.layout.specs.Bytes.{sourceFrom, coreFrom, stateFrom}
 use Rattle.in_place.specs.Held.{sourcePlace, corePlace}
 use Rattle.in_place.proofs.Stored.{held-length, read-source, read-core}
-use Rattle.core_steps.proofs.Deliveries.{DeliveredTo, delivered-none, turn-fits, turn-rests, turn-source, turn-core, turn-names, delivered-more, delivered-rest, delivered-all}
+use Rattle.core_steps.proofs.Deliveries.{DeliveredTo, delivered-none, turn-fits, turn-rests, turn-source, turn-core, turn-names}
+use Rattle.core_steps.proofs.Deliveries.{delivered-more, delivered-rest, delivered-all}
 use Rattle.core_steps.proofs.deliver_all.Statement.{statement}
 use Rattle.core_steps.proofs.deliver_all.Tie as tie
 

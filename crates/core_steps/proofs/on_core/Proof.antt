@@ -10,7 +10,8 @@ use Rattle.model.specs.Commands.{namesCore}
 use Rattle.layout.specs.Bytes.{stateSize, stateFrom}
 use Rattle.in_place.proofs.Numbering.{sizes-read}
 use Rattle.in_place.proofs.Stored.{held-length}
-use Rattle.core_steps.proofs.Cores.{Judged, named-by, bad-core, core-in, judged, refused-later, soiled-by, sizes-stay, set-leaves, claim-leaves}
+use Rattle.core_steps.proofs.Cores.{Judged, named-by, bad-core, core-in, judged, refused-later, soiled-by, sizes-stay, set-leaves}
+use Rattle.core_steps.proofs.Cores.{claim-leaves}
 use borrow.Author.Needs.{needs}
 use Rattle.core_steps.proofs.on_core.Statement.{statement}
 use Rattle.core_steps.proofs.on_core.Tie as tie

@@ -5,7 +5,8 @@ use mathlib.Core.Logic.{⊎-elim}
 use native.Mathlib.Omega.{arith}
 use Rattle.layout.specs.Bytes.{stateFrom}
 use Rattle.in_place.proofs.Stored.{held-length, read-core}
-use Rattle.core_steps.proofs.Retracted.{Emptying, emptying-none, emptying-by, core-inside, box-names, emptying-filled, emptying-empty, emptying-all}
+use Rattle.core_steps.proofs.Retracted.{Emptying, emptying-none, emptying-by, core-inside, box-names, emptying-filled}
+use Rattle.core_steps.proofs.Retracted.{emptying-empty, emptying-all}
 use Rattle.core_steps.proofs.retract_all.Statement.{statement}
 use Rattle.core_steps.proofs.retract_all.Tie as tie
 

@@ -4,7 +4,8 @@ use mathlib.Core.Path.{sym, _∙_}
 use native.Mathlib.Omega.{arith}
 use borrow.Author.Tests.{not-true, not-false}
 use Rattle.model.specs.Records.{maxSources, maxCores}
-use Rattle.decoding.proofs.Flags.{Flagged, wrong-size, no-source-flags, no-core-flags, flagged-none, flagged-source, flagged-core, all-flagged}
+use Rattle.decoding.proofs.Flags.{Flagged, wrong-size, no-source-flags, no-core-flags, flagged-none, flagged-source, flagged-core}
+use Rattle.decoding.proofs.Flags.{all-flagged}
 use Rattle.decoding.proofs.is_state.Statement.{statement}
 use Rattle.decoding.proofs.is_state.Tie as tie
 

@@ -15,7 +15,8 @@ use Rattle.steps.specs.Going.{Going}
 use Rattle.recording_calls.specs.Remaining.{Remaining, remainingWith, left}
 use Rattle.recording_calls.proofs.Parts.{after, next-none, next-one}
 use Rattle.recording_calls.proofs.Reached.{due, due-less, commands-room, more-room}
-use Rattle.recording_calls.proofs.Answers.{ReplayedTo, replayed-none, replayed-past, replayed-more, replay-end, replay-refused, made, encoded, state-fits, answers-fit}
+use Rattle.recording_calls.proofs.Answers.{ReplayedTo, replayed-none, replayed-past, replayed-more, replay-end, replay-refused, made}
+use Rattle.recording_calls.proofs.Answers.{encoded, state-fits, answers-fit}
 use Rattle.recording_calls.proofs.replay_all.Statement.{statement}
 use Rattle.recording_calls.proofs.replay_all.Tie as tie
 

@@ -17,7 +17,8 @@ use Rattle.routines.specs.Calls.{oneCall, routinesIn, isSimulation, tableSize, 
 use Rattle.routine_laws.proofs.Called.{counting, routinesMachine}
 use Rattle.routine_steps.specs.Simulated.{Running}
 use Rattle.routine_test.proofs.Encoded.{encoded}
-use Rattle.routine_lists.proofs.Simulating.{readCall, fit, kept-by, raised-by, count-fits, simulate-none, simulate-more, simulate-done}
+use Rattle.routine_lists.proofs.Simulating.{readCall, fit, kept-by, raised-by, count-fits, simulate-none, simulate-more}
+use Rattle.routine_lists.proofs.Simulating.{simulate-done}
 use Rattle.routine_lists.proofs.simulate_all.Statement.{statement}
 use Rattle.routine_lists.proofs.simulate_all.Tie as tie
 

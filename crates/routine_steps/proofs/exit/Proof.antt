@@ -10,7 +10,8 @@ use Rattle.routines.specs.declared.RoutineCall.the-variants.{Exit}
 use Rattle.routines.specs.Routines.{callRefusal}
 use Rattle.routines.specs.Calls.{routinesIn}
 use Rattle.routine_steps.proofs.Numbers.{bad-core, idle-core}
-use Rattle.routine_steps.proofs.Done.{standing-ready, exit-named, exit-core, exit-accepted, exit-refused, exit-ready, exit-cycles, exit-done}
+use Rattle.routine_steps.proofs.Done.{standing-ready, exit-named, exit-core, exit-accepted, exit-refused, exit-ready, exit-cycles}
+use Rattle.routine_steps.proofs.Done.{exit-done}
 use borrow.Author.Needs.{needs}
 use Rattle.routine_steps.proofs.exit.Statement.{statement}
 use Rattle.routine_steps.proofs.exit.Tie as tie

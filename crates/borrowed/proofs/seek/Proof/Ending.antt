@@ -19,7 +19,8 @@ use prog.Routine.{Routine}
 use prog.Wp.{Heap, Tables, afterTurn}
 use ghost.Atoms.{Atoms}
 use contract.Monad.{Fun, fact}
-use types.Kit.{Given, atRet, ‵, raw, _⊛_, some, later, _$_, !, by, move, drop, use1, use3, split, pick, rewrite, fsplit, fjoin, fpick, feqI, await}
+use types.Kit.{Given, atRet, ‵, raw, _⊛_, some, later, _$_, !, by, move, drop, use1, use3, split, pick, rewrite, fsplit, fjoin, fpick, feqI}
+use types.Kit.{await}
 use types.Run.{look, forget, stop, from, bin, addr, and-then, no-more, leaves-loop, returns, exec, free1, free0}
 use types.Part.{whole, sub}
 use types.Tokens.{lft-new, lft-end, lent-back}

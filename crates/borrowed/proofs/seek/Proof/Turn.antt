@@ -21,7 +21,8 @@ use prog.Wp.{Heap, Tables, afterTurn}
 use ghost.Atoms.{Atoms}
 use contract.Monad.{Fun, fact}
 use types.Kit.{Given, ‵, raw, _$_, !, move, drop, use1, split, pick, rewrite, await}
-use types.Run.{look, look-raw, store, forget, stop, hop, from, load, lit, of-opd, bin, addr, and-then, no-more, assigns, assigns-last, stays, again}
+use types.Run.{look, look-raw, store, forget, stop, hop, from, load, lit, of-opd, bin, addr, and-then, no-more, assigns, assigns-last}
+use types.Run.{stays, again}
 use types.Part.{whole, sub}
 use sound.WpLaws.{fmOf}
 use denote.Laws.{Is, shows}
