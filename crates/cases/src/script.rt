@@ -1,4 +1,5 @@
-// Document 01's "Table of runs", and two runs of document 02. A row is a command, and for a marked one, T1 to T12, what the table wants of it:
+// Document 01's "Table of runs", and two runs of document 02. A row is a command, and for a marked one, T1 to T12, what the table wants
+// of it:
 //   0       the mark, 1 to 12 for T1 to T12, 0 for a step without one
 //   1       the command's number 0 to 7; or START, go back to the table's start state; or MAKE, make a controller
 //   2, 3    the id or core, and the priority; of a making, how many sources and cores

@@ -57,10 +57,10 @@ pub fn source_refusal(n: u16, r: Source, claimed: bool, a: SourceAction) -> u8
         SourceAction::Mask => 0,
         SourceAction::Unmask => 0,
         SourceAction::Trigger => {
-            if r.pending {
-                return ALREADY_PENDING;
+            if !r.pending {
+                return 0;
             }
-            0
+            ALREADY_PENDING
         }
         SourceAction::Redeliver => {
             if claimed {

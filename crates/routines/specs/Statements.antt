@@ -41,7 +41,8 @@ pub data CallRow (s : Routines) : RoutineCall → ℕ → Type 0 where
       {id : SourceId} {p : ℕ} → ¬ ((1 ≤ p) × (p ≤ topPriority (s .controller .n))) → CallRow s (Direct id (SetPriority p)) badPriority
   is-pending : {id : SourceId} → (sourceAt (s .controller) (indexOf id)) .pending ≡ true → CallRow s (Direct id Trigger) alreadyPending
   in-use :
-      {id : SourceId} {p : ℕ} → (sourceAt (s .controller) (indexOf id)) .pending ≡ true → CallRow s (Direct id (SetPriority p)) priorityInUse
+      {id : SourceId} {p : ℕ} → (sourceAt (s .controller) (indexOf id)) .pending ≡ true →
+      CallRow s (Direct id (SetPriority p)) priorityInUse
   no-core-entered : {k : CoreId} → s .controller .m ≤ k .0 → CallRow s (Enter k) badCore
   empty-box : {k : CoreId} → (coreAt (s .controller) (k .0)) .message .filled ≡ false → CallRow s (Enter k) nothingToClaim
   no-core-left : {k : CoreId} → s .controller .m ≤ k .0 → CallRow s (Exit k) badCore

@@ -12,7 +12,11 @@ is-source-priority-requires c κs = search needs
 
 returns : tie.Need-returns
 returns c =
-    rw (c .before .before .before .a .given .1, ← c .before .is-source-priority .ensures, not-true (c .before .is-source-priority .result) (c .if1 .taken))
+    rw (
+      c .before .before .before .a .given .1,
+      ← c .before .is-source-priority .ensures,
+      not-true (c .before .is-source-priority .result) (c .if1 .taken),
+    )
 
 returns-2 : tie.Need-returns-2
 returns-2 c =
