@@ -204,6 +204,11 @@ impl Fault {
         Fault::WithoutRequest5,
     ];
 
+    /// Of the wrong settings one is a clause of a sound state; the others answer set source priority.
+    pub fn adds_a_clause(self) -> bool {
+        self == Fault::SetApartUnsound
+    }
+
     /// Of the wrong clauses one refuses sound states; the others take broken ones.
     pub fn is_too_strict(self) -> bool {
         self == Fault::ClauseOfTheLeastCurrent
