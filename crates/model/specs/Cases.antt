@@ -13,7 +13,8 @@ use Rattle.model.specs.declared.Command.{Command}
 use Rattle.model.specs.declared.Command.the-variants.{OnSource, OnCore}
 use Rattle.model.specs.declared.SourceAction.the-variants.{SetSourcePriority, Mask, Unmask, Trigger, Redeliver, Complete}
 use Rattle.model.specs.declared.CoreAction.the-variants.{SetCorePriority, Claim}
-use Rattle.model.specs.Records.{sourceId, coreId, sourceWith, sourceAt, coreAt, withConfigured, withMask, withSource, resetSource, reset}
+use Rattle.model.specs.Records.{sourceId, coreId, sourceWith, sourceAt, coreAt, withConfigured, withMask, withSource, resetSource}
+use Rattle.model.specs.Records.{reset}
 use Rattle.model.specs.Requests.{waiting, holds, claimed, Owner, bySource, byBox, bySoftware}
 use Rattle.model.specs.Commands.{execute, run}
 use Rattle.model.specs.Ledger.{currentPriorities}

@@ -30,8 +30,10 @@ use Rattle.model.specs.Priorities.{floorLog2, topPriority}
 use Rattle.model.specs.Requests.{currentPriority, candidate, claimed, Owner, Owns}
 use Rattle.model.specs.Arbitration.{higher, highest, highestByWalk, highestId, lower, least}
 use Rattle.model.specs.Settling.{deliver, interruptedBy, next, settle, isRetraction, isDelivery, countOf, cyclesOf}
-use Rattle.model.specs.Commands.{effect, malformed, badCore, badSource, badPriority, alreadyPending, nothingToClaim, notClaimed, priorityInUse, refusal, afterRefusal, execute, make}
-use Rattle.model.specs.Ledger.{Ledger, noRequest, opening, ledger, collection, Placement, given, inBoxes, requestPriority, currentPriorities, placedBy, filledBoxes, entriesBy}
+use Rattle.model.specs.Commands.{effect, malformed, badCore, badSource, badPriority, alreadyPending, nothingToClaim, notClaimed}
+use Rattle.model.specs.Commands.{priorityInUse, refusal, afterRefusal, execute, make}
+use Rattle.model.specs.Ledger.{Ledger, noRequest, opening, ledger, collection, Placement, given, inBoxes, requestPriority}
+use Rattle.model.specs.Ledger.{currentPriorities, placedBy, filledBoxes, entriesBy}
 use Rattle.lists.specs.Rows.{row}
 use Rattle.lists.specs.Sorting.{sortDown}
 use Rattle.model.specs.Behaviours.{Behaviour, runBy}

@@ -16,7 +16,8 @@ use Rattle.routines.specs.declared.DirectAction.the-variants.{SetPriority, Mask
 use Rattle.routines.specs.declared.RoutineCall.{RoutineCall}
 use Rattle.routines.specs.declared.RoutineCall.the-variants.{Direct, Enter, Exit}
 use Rattle.routines.specs.Routines.{activeAt, soundRoutines, SoundRoutines, callRefusalOf, callRefusal}
-use Rattle.routines.specs.Statements.{CallRow, not-sound, no-source, source-priority, is-pending, in-use, no-core-entered, empty-box, no-core-left, idle-core, CallRefusals, CallRefusalsExact}
+use Rattle.routines.specs.Statements.{CallRow, not-sound, no-source, source-priority, is-pending, in-use, no-core-entered, empty-box}
+use Rattle.routines.specs.Statements.{no-core-left, idle-core, CallRefusals, CallRefusalsExact}
 use Rattle.routine_laws.proofs.Checks.{Next, fails, later, NoLine, Chain, done, check, by-chain}
 use Rattle.routine_laws.proofs.Test.{routines-test-exact}
 use Rattle.routine_laws.proofs.Answered.{number-answered}

@@ -29,7 +29,8 @@ use Rattle.lists.proofs.Exact.{between-exact}
 use Rattle.lists.proofs.Bools.{Flag, on, off, flag, clash}
 use Rattle.model.specs.WellFormed.{wellFormed, WellFormed}
 use Rattle.model.specs.Commands.{unless, namesSource, namesCore, sourceRefusal, coreRefusal, refusalOf, refusal, settled, refused, execute}
-use Rattle.model.specs.Statements.{Row, not-sound, no-core, no-source, source-priority, core-priority, is-pending, empty-box, not-redelivered, not-completed, in-use, turn, Refusals, RefusalsExact, RefusalAnswered, RefusedUnchanged}
+use Rattle.model.specs.Statements.{Row, not-sound, no-core, no-source, source-priority, core-priority, is-pending, empty-box}
+use Rattle.model.specs.Statements.{not-redelivered, not-completed, in-use, turn, Refusals, RefusalsExact, RefusalAnswered, RefusedUnchanged}
 use Rattle.well_formed.proofs.Test.{test-exact}
 use Rattle.effects.proofs.Accepted.{by-answer}
 
