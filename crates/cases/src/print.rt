@@ -201,7 +201,8 @@ fn words(refusal: u8) {
         5 => text(b"the priority is out of range"),
         6 => text(b"the source is pending already"),
         7 => text(b"the box is empty"),
-        _ => text(b"the request isn't claimed"),
+        8 => text(b"the request isn't claimed"),
+        _ => text(b"the source is pending, so its priority stays"),
     }
 }
 

@@ -1,4 +1,5 @@
-// Document 01's "Table of runs", and a run of document 02. A row is a command, and for a marked one, T1 to T12, what the table wants of it:
+// Document 01's "Table of runs", and two runs of document 02. A row is a command, and for a marked one, T1 to T12, what the table wants
+// of it:
 //   0       the mark, 1 to 12 for T1 to T12, 0 for a step without one
 //   1       the command's number 0 to 7; or START, go back to the table's start state; or MAKE, make a controller
 //   2, 3    the id or core, and the priority; of a making, how many sources and cores
@@ -33,7 +34,7 @@ const SCRIPT: [[u16; COLUMNS]; ROWS] = [
     [0, 3, 1, 100, 0, 0, 0, 0, 0, 0, 0],
     [9, 4, 4, 0, 0, 0, 1, 4, 100, 4, 2],
     [9, 3, 1, 0, 0, 0, 2, 3, 4, 4, 3],
-    // T10, then the request keeps its own priority
+    // T10, then set source 4 to 9, which document 02, request 5, refuses
     [0, 8, 0, 0, 0, 0, 0, 0, 0, 0, 0],
     [0, 3, 0, 4, 0, 0, 0, 0, 0, 0, 0],
     [0, 3, 1, 4, 0, 0, 0, 0, 0, 0, 0],

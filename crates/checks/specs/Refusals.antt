@@ -13,10 +13,11 @@ use Rattle.model.specs.declared.SourceAction.the-variants.{SetSourcePriority, M
 use Rattle.model.specs.declared.CoreAction.{CoreAction}
 use Rattle.model.specs.declared.CoreAction.the-variants.{SetCorePriority, Claim}
 use Rattle.model.specs.Priorities.{topPriority}
-use Rattle.model.specs.Commands.{badPriority, alreadyPending, nothingToClaim, notClaimed, unless}
+use Rattle.model.specs.Commands.{badPriority, alreadyPending, nothingToClaim, notClaimed, priorityInUse, unless}
 
 abbrev pub sourceRefusalBy : ℕ → Source → Bool → SourceAction → ℕ
-sourceRefusalBy n r claimed (SetSourcePriority p) = unless (between 1 (topPriority n) p) badPriority 0
+sourceRefusalBy n r claimed (SetSourcePriority p) =
+    unless (between 1 (topPriority n) p) badPriority (unless (not (r .pending)) priorityInUse 0)
 sourceRefusalBy n r claimed Mask = 0
 sourceRefusalBy n r claimed Unmask = 0
 sourceRefusalBy n r claimed Trigger = unless (not (r .pending)) alreadyPending 0

@@ -17,6 +17,7 @@ use numbers::ALREADY_PENDING;
 use numbers::BAD_PRIORITY;
 use numbers::NOT_CLAIMED;
 use numbers::NOTHING_TO_CLAIM;
+use numbers::PRIORITY_IN_USE;
 
 // Whether the id is 1 to n.
 pub fn names_source(n: u16, id: SourceId) -> bool
@@ -45,18 +46,21 @@ pub fn source_refusal(n: u16, r: Source, claimed: bool, a: SourceAction) -> u8
 {
     match a {
         SourceAction::SetSourcePriority(p) => {
-            if is_source_priority(n, p) {
-                return 0;
+            if !is_source_priority(n, p) {
+                return BAD_PRIORITY;
             }
-            BAD_PRIORITY
+            if r.pending {
+                return PRIORITY_IN_USE;
+            }
+            0
         }
         SourceAction::Mask => 0,
         SourceAction::Unmask => 0,
         SourceAction::Trigger => {
-            if r.pending {
-                return ALREADY_PENDING;
+            if !r.pending {
+                return 0;
             }
-            0
+            ALREADY_PENDING
         }
         SourceAction::Redeliver => {
             if claimed {

@@ -24,7 +24,7 @@ use Rattle.model.specs.Priorities.{topPriority}
 use Rattle.model.specs.Requests.{claimed}
 use Rattle.lists.specs.Numbers.{between}
 use Rattle.model.specs.WellFormed.{wellFormed, WellFormed}
-use Rattle.model.specs.Commands.{unless, namesSource, namesCore, sourceRefusal, coreRefusal, refusalOf, refusal}
+use Rattle.model.specs.Commands.{priorityInUse, unless, namesSource, namesCore, sourceRefusal, coreRefusal, refusalOf, refusal}
 use Rattle.lists.proofs.Exact.{between-exact}
 use Rattle.well_formed.proofs.Test.{wellFormed-out}
 
@@ -36,7 +36,7 @@ Named s id = InTop (s .n) (id .0)
 
 -- of the source at index i, after its id
 abbrev pub SourceChecked : Controller → ℕ → SourceAction → Type 0
-SourceChecked s i (SetSourcePriority p) = InTop (topPriority (s .n)) p
+SourceChecked s i (SetSourcePriority p) = InTop (topPriority (s .n)) p × ((sourceAt s i) .pending ≡ false)
 SourceChecked s i Mask = Unit {0}
 SourceChecked s i Unmask = Unit {0}
 SourceChecked s i Trigger = (sourceAt s i) .pending ≡ false
@@ -72,7 +72,10 @@ passed false number later e = absurd (omega arith)
 -- The numerals are the refusals' numbers, less one.
 source-checked : (s : Controller) (i : ℕ) (a : SourceAction) → sourceRefusal s i a ≡ 0 → SourceChecked s i a
 source-checked s i (SetSourcePriority p) e =
-    (between-exact 1 (topPriority (s .n)) p) .0 ((passed (between 1 (topPriority (s .n)) p) 4 0 e) .0)
+    let (here, rest) = passed (between 1 (topPriority (s .n)) p) 4 (unless (not ((sourceAt s i) .pending)) priorityInUse 0) e in (
+      (between-exact 1 (topPriority (s .n)) p) .0 here,
+      not-true ((sourceAt s i) .pending) ((passed (not ((sourceAt s i) .pending)) 8 0 rest) .0),
+    )
 source-checked s i Mask e = tt
 source-checked s i Unmask e = tt
 source-checked s i Trigger e = not-true ((sourceAt s i) .pending) ((passed (not ((sourceAt s i) .pending)) 5 0 e) .0)

@@ -51,7 +51,7 @@ module _ (s : Controller) (w : WellFormed s) where
 
   -- what the write of one source puts in its place
   source-replaces : (i : ℕ) → i < s .n → (a : SourceAction) → SourceChecked s i a → Replaces s i (sourceAfter a (sourceAt s i))
-  source-replaces i l (SetSourcePriority p) range = set-replaces s old i l p ((sourceAt s i) .masked) range
+  source-replaces i l (SetSourcePriority p) (range, idle) = set-replaces s old i l p ((sourceAt s i) .masked) range
   source-replaces i l Mask h = set-replaces s old i l ((sourceAt s i) .configured) true (old .configured-source i l)
   source-replaces i l Unmask h = set-replaces s old i l ((sourceAt s i) .configured) false (old .configured-source i l)
   source-replaces i l Trigger idle = opened-replaces s old i l idle

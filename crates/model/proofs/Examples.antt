@@ -1,6 +1,7 @@
 -- The cases of document 01's table hold of the definitions, each list by one computation. Assumes nothing.
 --   marked-pass     T1 to T12
---   further-pass    further rows of the table, and the tie between two requests
+--   further-pass    further rows of the table, the tie between two requests, and set source priority of a pending source
+--   asked-pass      from a state in which a request's priority isn't its source's
 --   computed        opens what a run computes with, for the computed cases of the crates above too
 --   start-set-up    the table's start state is what 64 commands make of a fresh controller
 use mathlib.Core.Path.{_≡_, refl}
@@ -21,7 +22,7 @@ use Rattle.model.specs.WellFormed.{candidatesSettled, coveredSettled, fr
 use Rattle.model.specs.Settling.{retract, deliver, firstDirty, arbitrate, next, cycle, settle, countOf, cyclesOf}
 use Rattle.model.specs.Commands.{effect, refusalOf, refusal, answeredId, settled, refused, execute, run}
 use Rattle.lists.specs.Rows.{gather}
-use Rattle.model.specs.Cases.{numbered, start, setUp, answersAs, passes, allPass, marked, further}
+use Rattle.model.specs.Cases.{numbered, start, setUp, answersAs, passes, allPass, marked, further, apart, asked}
 
 -- To open this name is to open every definition that a run computes with.
 unfoldable pub computed : Controller → List Command → Controller
@@ -32,13 +33,17 @@ unfolding leadingZeros floorLog2 priorityWidth topPriority every some walk tree 
     answersAs passes allPass
 computed = run
 
-pub marked-pass : allPass marked ≡ true
+pub marked-pass : allPass start marked ≡ true
 unfolding computed marked
 marked-pass = refl
 
-pub further-pass : allPass further ≡ true
+pub further-pass : allPass start further ≡ true
 unfolding computed further
 further-pass = refl
+
+pub asked-pass : allPass apart asked ≡ true
+unfolding computed apart asked
+asked-pass = refl
 
 pub start-set-up : run (reset 32 2) (setUp 32) ≡ start
 unfolding computed setUp

@@ -1,7 +1,8 @@
 -- The marked cases T1 to T12 of document 01's "Table of runs", and some further rows of it, as one list. Definitions only.
--- A case is a list of commands from the table's start state, then one command with what it must answer.
---   start          n = 32, m = 2, every source unmasked with priority equal to its id
---   passes c       whether the definitions answer as the case says
+-- A case is a list of commands from a state, the table's start state unless said, then one command with what it must answer.
+--   start           n = 32, m = 2, every source unmasked with priority equal to its id
+--   apart           a sound state in which a request's priority isn't its source's; no list of commands leads there from start
+--   passes s c      whether the definitions answer from s as the case says
 use Prim.Native.Nat.{ℕ, zero, suc}
 use mathlib.Core.List.{List, [], _∷_, _++_}
 use mathlib.Core.Bool.{Bool, true, false, _&&_}
@@ -12,7 +13,8 @@ use Rattle.model.specs.declared.Command.{Command}
 use Rattle.model.specs.declared.Command.the-variants.{OnSource, OnCore}
 use Rattle.model.specs.declared.SourceAction.the-variants.{SetSourcePriority, Mask, Unmask, Trigger, Redeliver, Complete}
 use Rattle.model.specs.declared.CoreAction.the-variants.{SetCorePriority, Claim}
-use Rattle.model.specs.Records.{sourceId, coreId, sourceAt, coreAt, withConfigured, withMask, withSource, resetSource, reset}
+use Rattle.model.specs.Records.{sourceId, coreId, sourceWith, sourceAt, coreAt, withConfigured, withMask, withSource, resetSource}
+use Rattle.model.specs.Records.{reset}
 use Rattle.model.specs.Requests.{waiting, holds, claimed, Owner, bySource, byBox, bySoftware}
 use Rattle.model.specs.Commands.{execute, run}
 use Rattle.model.specs.Ledger.{currentPriorities}
@@ -99,12 +101,12 @@ answersAs c a =
     eqb (a .id .0) (c .id) &&
     eqb (a .cycles) (c .cycles) && sameNumbers (currentPriorities 2 (a .state)) (c .currents) && allSeen (a .state) (c .owners)
 
-unfoldable pub passes : Case → Bool
-passes c = answersAs c (execute (run start (c .before)) (c .command))
+unfoldable pub passes : Controller → Case → Bool
+passes s c = answersAs c (execute (run s (c .before)) (c .command))
 
-unfoldable pub allPass : List Case → Bool
-allPass [] = true
-allPass (c ∷ cs) = passes c && allPass cs
+unfoldable pub allPass : Controller → List Case → Bool
+allPass s [] = true
+allPass s (c ∷ cs) = passes s c && allPass s cs
 
 -- ---- the table
 
@@ -170,8 +172,19 @@ marked =
 unfoldable pub further : List Case
 unfolding case sourcePriority mask unmask corePriority trigger claim redeliver complete waits inBox taken
 further =
-    -- T10, then set source 4 to 9: a request keeps its own priority
-    case (corePriority 0 4 ∷ corePriority 1 4 ∷ trigger 4 ∷ []) (sourcePriority 4 9) 0 0 0 4 4 (waits 4 ∷ []) ∷
+    -- T10, then set source 4 to 9: document 02, request 5
+    case (corePriority 0 4 ∷ corePriority 1 4 ∷ trigger 4 ∷ []) (sourcePriority 4 9) 9 0 0 4 4 (waits 4 ∷ []) ∷
+    -- 4 waits masked, lies in a box, is claimed; also to the priority that it has
+    case (mask 4 ∷ trigger 4 ∷ []) (sourcePriority 4 9) 9 0 0 0 0 (waits 4 ∷ []) ∷
+    case (trigger 4 ∷ []) (sourcePriority 4 9) 9 0 0 4 0 (inBox 4 0 ∷ []) ∷
+    case (trigger 4 ∷ claim 0 ∷ []) (sourcePriority 4 9) 9 0 0 4 0 (taken 4 ∷ []) ∷
+    case (trigger 4 ∷ []) (sourcePriority 4 4) 9 0 0 4 0 (inBox 4 0 ∷ []) ∷
+    -- 4 and 5 are checked first; id 0 would stand where source 1 does
+    case (trigger 1 ∷ []) (sourcePriority 0 9) 4 0 0 1 0 (inBox 1 0 ∷ []) ∷
+    case (trigger 4 ∷ []) (sourcePriority 4 128) 5 0 0 4 0 (inBox 4 0 ∷ []) ∷
+    -- another source's request is no matter, nor is one that is completed: the next request has the priority set
+    case (trigger 4 ∷ []) (sourcePriority 5 9) 0 0 0 4 0 (inBox 4 0 ∷ []) ∷
+    case (trigger 4 ∷ claim 0 ∷ complete 4 ∷ sourcePriority 4 9 ∷ []) (trigger 4) 0 0 1 4 9 (inBox 4 1 ∷ []) ∷
     -- source priority 127
     case [] (sourcePriority 4 127) 0 0 0 0 0 [] ∷
     -- source priority 128
@@ -203,4 +216,21 @@ further =
     case (mask 4 ∷ trigger 4 ∷ []) (unmask 4) 0 0 1 4 0 (inBox 4 0 ∷ []) ∷
     -- complete leaves the mask: the next request waits
     case (trigger 4 ∷ claim 0 ∷ mask 4 ∷ complete 4 ∷ []) (trigger 4) 0 0 0 4 0 (waits 4 ∷ []) ∷
+    []
+
+-- ---- a request whose priority isn't its source's
+
+-- T10 with source 4 at 9 under its request of 4, which set source priority refuses.
+unfoldable pub apart : Controller
+unfolding corePriority trigger
+apart = withSource (run start (corePriority 0 4 ∷ corePriority 1 4 ∷ trigger 4 ∷ [])) 3 (sourceWith 9 false true false 4)
+
+-- Sound, so commands are accepted, and the request's own priority counts: 4 waits on; delivered, its core shows 4.
+unfoldable pub asked : List Case
+unfolding case sourcePriority mask unmask corePriority trigger claim redeliver complete waits inBox taken
+asked =
+    case [] (trigger 3) 0 0 0 4 4 (waits 3 ∷ waits 4 ∷ []) ∷
+    case [] (unmask 4) 0 0 0 4 4 (waits 4 ∷ []) ∷
+    case [] (corePriority 1 0) 0 0 1 4 4 (inBox 4 1 ∷ []) ∷
+    case [] (sourcePriority 4 4) 9 0 0 4 4 (waits 4 ∷ []) ∷
     []

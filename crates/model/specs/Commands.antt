@@ -1,5 +1,5 @@
 -- Making a controller, the eight commands, and the run of a list of them. Definitions only. Assumes nothing.
--- Source: document 01, "Eight commands" and "Numbers for no".
+-- Source: document 01, "Eight commands" and "Numbers for no"; number 9 is document 02's, request 5.
 --   effect s c      what command c does before settling
 --   refusal s c     the number for no, 0 for none: the checks of each command in their order
 --   execute s c     the whole command, on any state: a refused one hands back the state it was given, id 0 and 0 cycles
@@ -85,6 +85,10 @@ nothingToClaim = 7
 abbrev pub notClaimed : ℕ
 notClaimed = 8
 
+-- The priority belongs to a request that is pending: waiting, in a box or claimed.
+abbrev pub priorityInUse : ℕ
+priorityInUse = 9
+
 -- The number if the check fails, else what the later checks say.
 abbrev pub unless : Bool → ℕ → ℕ → ℕ
 unless passes number later = cond passes later number
@@ -97,7 +101,8 @@ namesCore s k = ltb (k .0) (s .m)
 
 -- The checks of a source's command after that of its id, which stands at i in the list.
 abbrev pub sourceRefusal : Controller → ℕ → SourceAction → ℕ
-sourceRefusal s i (SetSourcePriority p) = unless (between 1 (topPriority (s .n)) p) badPriority 0
+sourceRefusal s i (SetSourcePriority p) =
+    unless (between 1 (topPriority (s .n)) p) badPriority (unless (not ((sourceAt s i) .pending)) priorityInUse 0)
 sourceRefusal s i Mask = 0
 sourceRefusal s i Unmask = 0
 sourceRefusal s i Trigger = unless (not ((sourceAt s i) .pending)) alreadyPending 0

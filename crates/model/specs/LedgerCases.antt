@@ -92,7 +92,7 @@ unfoldable pub allRead : List Page → Bool
 allRead [] = true
 allRead (p ∷ ps) = reads (ledger opening (p .entries)) p && allRead ps
 
--- A request of source 2 at priority 5, its source set to 6 afterwards; the same claimed by core 1.
+-- A request of source 2 at priority 5, its source set to 6 afterwards, which the commands refuse by 9; the same claimed by core 1.
 abbrev opened : List Entry
 opened = sourcePriority 2 5 ∷ trigger 2 ∷ sourcePriority 2 6 ∷ []
 

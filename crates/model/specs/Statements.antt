@@ -31,9 +31,9 @@ use Rattle.model.specs.Requests.{currentPriority, candidate, claimed, Ow
 use Rattle.model.specs.Arbitration.{higher, highest, highestByWalk, highestId, lower, least}
 use Rattle.model.specs.Settling.{deliver, interruptedBy, next, settle, isRetraction, isDelivery, countOf, cyclesOf}
 use Rattle.model.specs.Commands.{effect, malformed, badCore, badSource, badPriority, alreadyPending, nothingToClaim, notClaimed}
-use Rattle.model.specs.Commands.{refusal, afterRefusal, execute, make}
-use Rattle.model.specs.Ledger.{Ledger, opening, ledger, collection, Placement, given, inBoxes, requestPriority, currentPriorities}
-use Rattle.model.specs.Ledger.{placedBy, filledBoxes, entriesBy}
+use Rattle.model.specs.Commands.{priorityInUse, refusal, afterRefusal, execute, make}
+use Rattle.model.specs.Ledger.{Ledger, noRequest, opening, ledger, collection, Placement, given, inBoxes, requestPriority}
+use Rattle.model.specs.Ledger.{currentPriorities, placedBy, filledBoxes, entriesBy}
 use Rattle.lists.specs.Rows.{row}
 use Rattle.lists.specs.Sorting.{sortDown}
 use Rattle.model.specs.Behaviours.{Behaviour, runBy}
@@ -316,6 +316,25 @@ pub record DemandThree : Type 0 where
   pub cycles-bounded : CyclesBounded
   pub nothing-cut-short : NothingCutShort
 
+-- ---- requests and their sources: document 02, request 5
+
+-- "A pending request's priority always equals its source's": waiting, in a box or claimed, masked or not.
+abbrev pub Follows : Source → Type 0
+Follows r = r .pending ≡ true → r .priority ≡ r .configured
+
+-- "From a fresh controller": after every list of commands, refused ones included. A sound state that is handed in need not be so.
+abbrev pub PriorityFollowsSource : Behaviour → Type 0
+PriorityFollowsSource x =
+    (n m : ℕ) (cs : List Command) → InRange n m → (i : ℕ) → i < n → Follows (sourceAt (runBy x (reset n m) cs) i)
+
+-- In the ledger b: a request, open or claimed, has the priority that its source is configured with.
+abbrev pub FollowsIn : Ledger → ℕ → Type 0
+FollowsIn b id = b .request id ≢ noRequest → requestPriority b id ≡ b .configured id
+
+abbrev pub LedgerFollowsSource : Behaviour → Type 0
+LedgerFollowsSource x =
+    (n m : ℕ) (cs : List Command) → InRange n m → (id : ℕ) → 1 ≤ id → id ≤ n → FollowsIn (ledger opening (entriesBy x (reset n m) cs)) id
+
 -- ---- refusals
 
 -- The lines of "Numbers for no" that a command can meet, each with its number.
@@ -329,8 +348,11 @@ pub data Row (s : Controller) : Command → ℕ → Type 0 where
   empty-box : {k : CoreId} → (coreAt s (k .0)) .message .filled ≡ false → Row s (OnCore k Claim) nothingToClaim
   not-redelivered : {id : SourceId} → claimed s (indexOf id) ≡ false → Row s (OnSource id Redeliver) notClaimed
   not-completed : {id : SourceId} → claimed s (indexOf id) ≡ false → Row s (OnSource id Complete) notClaimed
+  -- document 02, request 5: also to the priority that it has
+  in-use :
+      {id : SourceId} {p : ℕ} → (sourceAt s (indexOf id)) .pending ≡ true → Row s (OnSource id (SetSourcePriority p)) priorityInUse
 
--- "Order: 1, then 3 or 4, then 5, then 6, 7 or 8."
+-- "Order: 1, then 3 or 4, then 5, then 6, 7 or 8"; and 9 "is checked after 5".
 abbrev pub turn : ℕ → ℕ
 turn number = cond (eqb number 1) 1 (cond (eqb number 3 || eqb number 4) 2 (cond (eqb number 5) 3 4))
 

@@ -16,8 +16,8 @@ use Rattle.routines.specs.declared.DirectAction.the-variants.{SetPriority, Mask
 use Rattle.routines.specs.declared.RoutineCall.{RoutineCall}
 use Rattle.routines.specs.declared.RoutineCall.the-variants.{Direct, Enter, Exit}
 use Rattle.routines.specs.Routines.{activeAt, soundRoutines, SoundRoutines, callRefusalOf, callRefusal}
-use Rattle.routines.specs.Statements.{CallRow, not-sound, no-source, source-priority, is-pending, no-core-entered, empty-box, no-core-left}
-use Rattle.routines.specs.Statements.{idle-core, CallRefusals, CallRefusalsExact}
+use Rattle.routines.specs.Statements.{CallRow, not-sound, no-source, source-priority, is-pending, in-use, no-core-entered, empty-box}
+use Rattle.routines.specs.Statements.{no-core-left, idle-core, CallRefusals, CallRefusalsExact}
 use Rattle.routine_laws.proofs.Checks.{Next, fails, later, NoLine, Chain, done, check, by-chain}
 use Rattle.routine_laws.proofs.Test.{routines-test-exact}
 use Rattle.routine_laws.proofs.Answered.{number-answered}
@@ -46,21 +46,32 @@ module _ (s : Routines) where
         {number : ℕ} {R : ℕ → Type 0} → Chain 2 number R → Chain 1 (unless (namesSource (s .controller) id) 4 number) (Next Named 4 R)
     id-first row = check 4 (omega arith) (omega arith) (between-exact 1 (s .controller .n) (id .0)) row
 
+    abbrev pending : Bool
+    pending = (sourceAt (s .controller) (indexOf id)) .pending
+
+    -- the lines of set source priority after those of state and id
+    abbrev Setting : ℕ → ℕ → Type 0
+    Setting p = Next ((1 ≤ p) × (p ≤ top)) 5 (Next (pending ≡ false) 9 NoLine)
+
     setting-exact : (p : ℕ) → CallRefusals (callRefusal s (Direct id (SetPriority p))) s (Direct id (SetPriority p))
     unfolding callRefusal callRefusalOf refusalOf
     setting-exact p =
-        by-chain there back (sound-first (id-first (check 5 (omega arith) (omega arith) (between-exact 1 top p) (done 3))))
+        by-chain there back
+        (sound-first (id-first
+        (check 5 (omega arith) (omega arith) (between-exact 1 top p) (check 9 (omega arith) (omega arith) (not-exact pending) (done 4)))))
       where
-        there : (j : ℕ) → CallRow s (Direct id (SetPriority p)) j → Next Sound 1 (Next Named 4 (Next ((1 ≤ p) × (p ≤ top)) 5 NoLine)) j
+        there : (j : ℕ) → CallRow s (Direct id (SetPriority p)) j → Next Sound 1 (Next Named 4 (Setting p)) j
         there _ (not-sound h) = fails h
         there _ (no-source h) = later (fails h)
         there _ (source-priority h) = later (later (fails h))
+        there _ (in-use e) = later (later (later (fails (clash e))))
 
-        back : (j : ℕ) → Next Sound 1 (Next Named 4 (Next ((1 ≤ p) × (p ≤ top)) 5 NoLine)) j → CallRow s (Direct id (SetPriority p)) j
+        back : (j : ℕ) → Next Sound 1 (Next Named 4 (Setting p)) j → CallRow s (Direct id (SetPriority p)) j
         back _ (fails h) = not-sound h
         back _ (later (fails h)) = no-source h
         back _ (later (later (fails h))) = source-priority h
-        back _ (later (later (later e))) = absurd e
+        back _ (later (later (later (fails h)))) = in-use (confirmed pending h)
+        back _ (later (later (later (later e)))) = absurd e
 
     mask-exact : CallRefusals (callRefusal s (Direct id Mask)) s (Direct id Mask)
     unfolding callRefusal callRefusalOf refusalOf
@@ -87,9 +98,6 @@ module _ (s : Routines) where
         back _ (fails h) = not-sound h
         back _ (later (fails h)) = no-source h
         back _ (later (later e)) = absurd e
-
-    abbrev pending : Bool
-    pending = (sourceAt (s .controller) (indexOf id)) .pending
 
     trigger-exact : CallRefusals (callRefusal s (Direct id Trigger)) s (Direct id Trigger)
     unfolding callRefusal callRefusalOf refusalOf

@@ -127,11 +127,12 @@ runCases =
     case (trigger 4 ∷ enter 0 ∷ []) (trigger 5) 0 0 1 (4 ∷ 0 ∷ []) none ∷
     case (trigger 4 ∷ enter 0 ∷ []) (mask 4) 0 0 0 (4 ∷ 0 ∷ []) none ∷
     case (mask 5 ∷ trigger 5 ∷ []) (unmask 5) 0 0 1 (0 ∷ 0 ∷ []) none ∷
-    case (trigger 4 ∷ enter 0 ∷ []) (set-priority 4 9) 0 0 0 (4 ∷ 0 ∷ []) none ∷
-    -- and their own numbers: 4, 5, 6
+    case (trigger 4 ∷ enter 0 ∷ []) (set-priority 5 9) 0 0 0 (4 ∷ 0 ∷ []) none ∷
+    -- and their own numbers: 4, 5, 6, 9
     case [] (mask 33) 4 0 0 (0 ∷ 0 ∷ []) none ∷
     case [] (set-priority 4 128) 5 0 0 (0 ∷ 0 ∷ []) none ∷
     case (trigger 4 ∷ enter 0 ∷ []) (trigger 4) 6 0 0 (4 ∷ 0 ∷ []) none ∷
+    case (trigger 4 ∷ enter 0 ∷ []) (set-priority 4 9) 9 0 0 (4 ∷ 0 ∷ []) none ∷
     -- entry on an empty box 7, exit on an idle core 8
     case [] (enter 0) 7 0 0 (0 ∷ 0 ∷ []) none ∷
     case (trigger 4 ∷ enter 0 ∷ []) (enter 0) 7 0 0 (4 ∷ 0 ∷ []) none ∷

@@ -10,7 +10,7 @@ use Rattle.model.specs.declared.CoreId.{CoreId}
 use Rattle.model.specs.Records.{indexOf, sourceAt, coreAt}
 use Rattle.model.specs.Priorities.{topPriority}
 use Rattle.model.specs.Requests.{waiting, candidate}
-use Rattle.model.specs.Commands.{malformed, badCore, badSource, badPriority, alreadyPending, nothingToClaim, notClaimed}
+use Rattle.model.specs.Commands.{malformed, badCore, badSource, badPriority, alreadyPending, nothingToClaim, notClaimed, priorityInUse}
 use Rattle.model.specs.Statements.{InRange, turn}
 use Rattle.routines.specs.declared.Routines.{Routines}
 use Rattle.routines.specs.declared.DirectAction.{DirectAction}
@@ -40,6 +40,9 @@ pub data CallRow (s : Routines) : RoutineCall → ℕ → Type 0 where
   source-priority :
       {id : SourceId} {p : ℕ} → ¬ ((1 ≤ p) × (p ≤ topPriority (s .controller .n))) → CallRow s (Direct id (SetPriority p)) badPriority
   is-pending : {id : SourceId} → (sourceAt (s .controller) (indexOf id)) .pending ≡ true → CallRow s (Direct id Trigger) alreadyPending
+  in-use :
+      {id : SourceId} {p : ℕ} → (sourceAt (s .controller) (indexOf id)) .pending ≡ true →
+      CallRow s (Direct id (SetPriority p)) priorityInUse
   no-core-entered : {k : CoreId} → s .controller .m ≤ k .0 → CallRow s (Enter k) badCore
   empty-box : {k : CoreId} → (coreAt (s .controller) (k .0)) .message .filled ≡ false → CallRow s (Enter k) nothingToClaim
   no-core-left : {k : CoreId} → s .controller .m ≤ k .0 → CallRow s (Exit k) badCore

@@ -18,7 +18,7 @@ use Rattle.well_formed.proofs.Reset.{reset-wellFormed}
 use Rattle.effects.proofs.Accepted.{by-answer}
 use Rattle.effects.proofs.Checked.{accepted}
 use Rattle.effects.proofs.Kept.{wellFormed-kept}
-use Rattle.theorems.proofs.Refusals.{at-most-eight}
+use Rattle.theorems.proofs.Refusals.{at-most-nine}
 use Rattle.layout.specs.Statements.{Sized}
 use Rattle.layout.proofs.RoundTrip.{state-read-back, state-encoded}
 use Rattle.layout.proofs.Commands.{commandOf-numbers, packed-read}
@@ -45,7 +45,7 @@ tells :
     let told = packed (execute s c) in
     (numberIn told ≡ (execute s c) .number) × (idIn told ≡ (execute s c) .id .0) × (cyclesIn told ≡ (execute s c) .cycles)
 tells s c =
-    packed-read (execute s c) (omega (arith, at-most-eight s c)) (id-fits s c)
+    packed-read (execute s c) (omega (arith, at-most-nine s c)) (id-fits s c)
 
 pub execute-tells : ExecuteTells
 unfolding executeCall

@@ -20,7 +20,7 @@ use Rattle.theorems.proofs.Matching.{match-kept}
 use Rattle.theorems.proofs.MatchedStrict.{matched-strict}
 
 -- the ledger opens as a reset controller stands
-opening-matches : (n m : ℕ) → InRange n m → Matches n m opening (reset n m)
+pub opening-matches : (n m : ℕ) → InRange n m → Matches n m opening (reset n m)
 opening-matches n m R =
     let source : (i : ℕ) → i < n → sourceAt (reset n m) i ≡ resetSource = λ i h. source-reset n m i (omega arith) in
     record {
@@ -33,7 +33,7 @@ opening-matches n m R =
     }
 
 -- from a sound state that the ledger matches
-run-matches :
+pub run-matches :
     (n m : ℕ) (b : Ledger) (s : Controller) (cs : List Command) → WellFormed s → Matches n m b s →
     WellFormed (run s cs) × Matches n m (ledger b (entries s cs)) (run s cs)
 unfolding ledger answersBy paired runBy

@@ -20,7 +20,7 @@ use Rattle.model.specs.Statements.{RefusalsExact, RefusedUnchanged}
 use Rattle.model.specs.Cases.{start}
 use Rattle.model.proofs.Examples.{computed}
 use Rattle.theorems.proofs.Refusals.{number-unique}
-use Rattle.theorems.specs.Dummies.{refuseEverything, alwaysTwoM, freshWhenRefused, coreAsSource, priorityFirst}
+use Rattle.theorems.specs.Dummies.{refuseEverything, alwaysTwoM, freshWhenRefused, coreAsSource, priorityFirst, setsUnderRequest}
 
 module _ (x : Behaviour) (s : Controller) (c : Command) where
   pub fails-refusals : eqb ((x s c) .number) ((execute s c) .number) ≡ false → ¬ RefusalsExact x
@@ -47,6 +47,13 @@ coreAsSource-fails-refusals = fails-refusals coreAsSource start (OnCore (coreId 
 pub priorityFirst-fails-refusals : ¬ RefusalsExact priorityFirst
 unfolding computed
 priorityFirst-fails-refusals = fails-refusals priorityFirst start (OnSource (sourceId 33) (SetSourcePriority 0)) refl
+
+-- 4 in a box, then set to 9
+pub setsUnderRequest-fails-refusals : ¬ RefusalsExact setsUnderRequest
+unfolding computed
+setsUnderRequest-fails-refusals =
+    fails-refusals setsUnderRequest ((execute start (OnSource (sourceId 4) Trigger)) .state) (OnSource (sourceId 4) (SetSourcePriority 9))
+    refl
 
 -- id 33 of 32: source 4 had priority 4, and has 1
 pub freshWhenRefused-fails-unchanged : ¬ RefusedUnchanged freshWhenRefused

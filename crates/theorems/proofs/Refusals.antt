@@ -8,7 +8,7 @@
 use Prim.Native.Nat.{ℕ, zero, suc, _<_, _≤_}
 use mathlib.Core.Path.{_≡_, refl, sym, _∙_, ap}
 use mathlib.Core.Logic.{_≢_}
-use mathlib.Core.Bool.{true, false, not}
+use mathlib.Core.Bool.{Bool, true, false, not}
 use native.Mathlib.Omega.{arith}
 use lib.Dec.{leb}
 use borrow.Author.Tests.{ltb-true, ltb-false, leb-true, leb-false}
@@ -30,7 +30,7 @@ use Rattle.lists.proofs.Bools.{Flag, on, off, flag, clash}
 use Rattle.model.specs.WellFormed.{wellFormed, WellFormed}
 use Rattle.model.specs.Commands.{unless, namesSource, namesCore, sourceRefusal, coreRefusal, refusalOf, refusal, settled, refused, execute}
 use Rattle.model.specs.Statements.{Row, not-sound, no-core, no-source, source-priority, core-priority, is-pending, empty-box}
-use Rattle.model.specs.Statements.{not-redelivered, not-completed, turn, Refusals, RefusalsExact, RefusalAnswered, RefusedUnchanged}
+use Rattle.model.specs.Statements.{not-redelivered, not-completed, in-use, turn, Refusals, RefusalsExact, RefusalAnswered, RefusedUnchanged}
 use Rattle.well_formed.proofs.Test.{test-exact}
 use Rattle.effects.proofs.Accepted.{by-answer}
 
@@ -41,7 +41,7 @@ First s c k = Row s c k × ((j : ℕ) → Row s c j → turn k ≤ turn j)
 
 -- the last check of an action
 abbrev sourceLast : SourceAction → ℕ
-sourceLast (SetSourcePriority p) = 0
+sourceLast (SetSourcePriority p) = 9
 sourceLast Mask = 0
 sourceLast Unmask = 0
 sourceLast Trigger = 6
@@ -68,8 +68,9 @@ row-number (is-pending h) = refl
 row-number (empty-box h) = refl
 row-number (not-redelivered h) = refl
 row-number (not-completed h) = refl
+row-number (in-use h) = refl
 
-pub row-small : {s : Controller} {c : Command} {k : ℕ} → Row s c k → (1 ≤ k) × (k ≤ 8)
+pub row-small : {s : Controller} {c : Command} {k : ℕ} → Row s c k → (1 ≤ k) × (k ≤ 9)
 row-small (not-sound h) = (omega arith, omega arith)
 row-small (no-core h) = (omega arith, omega arith)
 row-small (no-source h) = (omega arith, omega arith)
@@ -79,6 +80,7 @@ row-small (is-pending h) = (omega arith, omega arith)
 row-small (empty-box h) = (omega arith, omega arith)
 row-small (not-redelivered h) = (omega arith, omega arith)
 row-small (not-completed h) = (omega arith, omega arith)
+row-small (in-use h) = (omega arith, omega arith)
 
 only-number : {s : Controller} {c : Command} (j k : ℕ) → First s c j → First s c k → j ≡ k
 only-number {s} {c} j k (rj, fj) (rk, fk) =
@@ -102,6 +104,7 @@ after-sound w _ (is-pending h) = omega arith
 after-sound w _ (empty-box h) = omega arith
 after-sound w _ (not-redelivered h) = omega arith
 after-sound w _ (not-completed h) = omega arith
+after-sound w _ (in-use h) = omega arith
 
 after-name : {s : Controller} {c : Command} → WellFormed s → Names s c → (j : ℕ) → Row s c j → 3 ≤ turn j
 after-name w n _ (not-sound h) = absurd (h w)
@@ -113,6 +116,7 @@ after-name w n _ (is-pending h) = omega arith
 after-name w n _ (empty-box h) = omega arith
 after-name w n _ (not-redelivered h) = omega arith
 after-name w n _ (not-completed h) = omega arith
+after-name w n _ (in-use h) = omega arith
 
 -- ---- the checks, in their order
 
@@ -122,10 +126,25 @@ data Met (s : Controller) (c : Command) : ℕ → Type 0 where
 
 -- of a source that has the id
 module _ {s : Controller} (w : WellFormed s) {id : SourceId} (n : (1 ≤ id .0) × (id .0 ≤ s .n)) where
-  setting-none : {p : ℕ} → (1 ≤ p) × (p ≤ topPriority (s .n)) → (j : ℕ) → ¬ Row s (OnSource id (SetSourcePriority p)) j
-  setting-none r _ (not-sound h) = h w
-  setting-none r _ (no-source h) = h n
-  setting-none r _ (source-priority h) = h r
+  abbrev pending : Bool
+  pending = (sourceAt s (indexOf id)) .pending
+
+  module _ {p : ℕ} (range : (1 ≤ p) × (p ≤ topPriority (s .n))) where
+    setting-none : pending ≡ false → (j : ℕ) → ¬ Row s (OnSource id (SetSourcePriority p)) j
+    setting-none e _ (not-sound h) = h w
+    setting-none e _ (no-source h) = h n
+    setting-none e _ (source-priority h) = h range
+    setting-none e _ (in-use h) = clash h e
+
+    setting-turn : (j : ℕ) → Row s (OnSource id (SetSourcePriority p)) j → 4 ≤ turn j
+    setting-turn _ (not-sound h) = absurd (h w)
+    setting-turn _ (no-source h) = absurd (h n)
+    setting-turn _ (source-priority h) = absurd (h range)
+    setting-turn _ (in-use h) = omega arith
+
+    use-met : Flag pending → Met s (OnSource id (SetSourcePriority p)) (unless (not pending) 9 0)
+    use-met (on e) = rw e (first 9 (in-use e, setting-turn))
+    use-met (off e) = rw e (none (setting-none e))
 
   mask-none : (j : ℕ) → ¬ Row s (OnSource id Mask) j
   mask-none _ (not-sound h) = h w
@@ -150,7 +169,7 @@ module _ {s : Controller} (w : WellFormed s) {id : SourceId} (n : (1 ≤ id .0) 
   complete-turn _ (no-source h) = absurd (h n)
   complete-turn _ (not-completed h) = omega arith
 
-  trigger-none : (sourceAt s (indexOf id)) .pending ≡ false → (j : ℕ) → ¬ Row s (OnSource id Trigger) j
+  trigger-none : pending ≡ false → (j : ℕ) → ¬ Row s (OnSource id Trigger) j
   trigger-none e _ (not-sound h) = h w
   trigger-none e _ (no-source h) = h n
   trigger-none e _ (is-pending h) = clash h e
@@ -167,12 +186,11 @@ module _ {s : Controller} (w : WellFormed s) {id : SourceId} (n : (1 ≤ id .0) 
 
   setting-met :
       (p : ℕ) → Flag (between 1 (topPriority (s .n)) p) →
-      Met s (OnSource id (SetSourcePriority p)) (unless (between 1 (topPriority (s .n)) p) 5 0)
-  setting-met p (on e) = rw e (none (setting-none ((between-exact 1 (topPriority (s .n)) p) .0 e)))
+      Met s (OnSource id (SetSourcePriority p)) (unless (between 1 (topPriority (s .n)) p) 5 (unless (not pending) 9 0))
+  setting-met p (on e) = rw e (use-met ((between-exact 1 (topPriority (s .n)) p) .0 e) (flag _))
   setting-met p (off e) = rw e (first 5 (source-priority (λ h. clash ((between-exact 1 (topPriority (s .n)) p) .1 h) e), after-name w n))
 
-  trigger-met :
-      Flag ((sourceAt s (indexOf id)) .pending) → Met s (OnSource id Trigger) (unless (not ((sourceAt s (indexOf id)) .pending)) 6 0)
+  trigger-met : Flag pending → Met s (OnSource id Trigger) (unless (not pending) 6 0)
   trigger-met (on e) = rw e (first 6 (is-pending e, trigger-turn))
   trigger-met (off e) = rw e (none (trigger-none e))
 
@@ -245,6 +263,7 @@ any-turn _ (is-pending h) = omega arith
 any-turn _ (empty-box h) = omega arith
 any-turn _ (not-redelivered h) = omega arith
 any-turn _ (not-completed h) = omega arith
+any-turn _ (in-use h) = omega arith
 
 met : (s : Controller) (c : Command) → Met s c (refusal s c)
 unfolding refusal
@@ -286,10 +305,10 @@ unique (suc j) (suc k) x y =
 pub number-unique : (s : Controller) (c : Command) (number : ℕ) → Refusals number s c → number ≡ (execute s c) .number
 number-unique s c number r = unique number ((execute s c) .number) r (refusals-exact s c)
 
-pub at-most-eight : (s : Controller) (c : Command) → (execute s c) .number ≤ 8
-at-most-eight s c = go ((execute s c) .number) (refusals-exact s c)
+pub at-most-nine : (s : Controller) (c : Command) → (execute s c) .number ≤ 9
+at-most-nine s c = go ((execute s c) .number) (refusals-exact s c)
   where
-    go : (k : ℕ) → Refusals k s c → k ≤ 8
+    go : (k : ℕ) → Refusals k s c → k ≤ 9
     go zero r = omega arith
     go (suc k) r = (row-small (((r .given) (suc k) (omega arith)) .0 refl .0)) .1
 

@@ -1,6 +1,6 @@
 -- Wrong controllers: the dummies of document 01, and some that a weaker statement would let pass. Definitions only; nothing here
 -- needs to be believed. Each is a function from a state and a command to an answer, as `execute` is.
--- Source: document 01, "How tight each statement is" and "Numbers for no".
+-- Source: document 01, "How tight each statement is" and "Numbers for no"; what requests 2 and 5 of document 02 changed.
 use Prim.Native.Nat.{ℕ, zero, suc, _*_}
 use mathlib.Core.List.{map}
 use mathlib.Core.Bool.{Bool, true, _&&_, cond}
@@ -18,7 +18,7 @@ use Rattle.model.specs.Requests.{currentPriority}
 use Rattle.lists.specs.Walks.{some, walk}
 use Rattle.model.specs.Arbitration.{highest}
 use Rattle.model.specs.Settling.{firstDirty, arbitrate, apply}
-use Rattle.model.specs.Commands.{sourceRefusal, coreRefusal, refusal, effect, answeredId, execute}
+use Rattle.model.specs.Commands.{priorityInUse, sourceRefusal, coreRefusal, refusal, effect, answeredId, settled, execute}
 use Rattle.model.specs.Behaviours.{Behaviour}
 
 -- ---- the dummies of document 01
@@ -115,3 +115,8 @@ laterRefusal s (OnCore k a) = coreRefusal s (k .0) a
 -- The priority is checked before the id: 5 where 4 is due.
 abbrev pub priorityFirst : Behaviour
 priorityFirst s c = cond (eqb ((execute s c) .number) 4 && eqb (laterRefusal s c) 5) (answer s 5 0 0) (execute s c)
+
+-- Set source priority is accepted on a pending source, whose request keeps its own: document 01's rule before request 5.
+abbrev pub setsUnderRequest : Behaviour
+setsUnderRequest s c =
+    cond (eqb ((execute s c) .number) priorityInUse) (settled (effect s c) (answeredId s c)) (execute s c)

@@ -77,12 +77,15 @@ trigger 9: accepted, 1 cycle, [3,9]  3: source  9: box 1
 /// A refused command is an answer, and the run goes on.
 #[test]
 fn a_refusal_is_answered_in_words() {
-    let (status, out, err) = answered(&SIZES, b"claim on core 0\ntrigger 5\nunmask 1\n");
+    let input = b"claim on core 0\ntrigger 5\ntrigger 1\nset source 1 to 1\nunmask 2\n";
+    let (status, out, err) = answered(&SIZES, input);
     assert_eq!((status, err.as_str()), (0, ""));
     let expected = "\
 claim on core 0: refused by 7 (the box is empty), 0 cycles, [0,0,0,0]
 trigger 5: refused by 4 (there is no such source), 0 cycles, [0,0,0,0]
-unmask 1: accepted, 0 cycles, [0,0,0,0]
+trigger 1: accepted, 0 cycles, [0,0,0,0]  1: source
+set source 1 to 1: refused by 9 (the source is pending, so its priority stays), 0 cycles, [0,0,0,0]  1: source
+unmask 2: accepted, 0 cycles, [0,0,0,0]  1: source
 ";
     assert_eq!(out, expected);
 }

@@ -53,6 +53,7 @@ static void table(void) {
     expect(answers(psic_claim(&state, core_0), PSIC_OK, 4, 0) && shows(&state, 4, 5), "T5");
     expect(owned(&state, 4, PSIC_OWNER_SOFTWARE, 0) && owned(&state, 6, PSIC_OWNER_NONE, 0), "T5: the software owns 4, nobody 6");
     expect(answers(psic_claim(&state, core_0), PSIC_EMPTY_BOX, 0, 0), "T5 again: 7");
+    expect(answers(psic_set_source_priority(&state, psic_source_id_of(4), 9), PSIC_PRIORITY_IN_USE, 0, 0), "set 4, which is claimed: 9");
     expect(answers(psic_complete(&state, psic_source_id_of(5)), PSIC_NOT_CLAIMED, 0, 0), "T6: 8");
     expect(answers(psic_complete(&state, psic_source_id_of(4)), PSIC_OK, 0, 0) && shows(&state, 4, 5), "T7");
     expect(answers(psic_set_core_priority(&state, core_0, 0), PSIC_OK, 0, 3) && shows(&state, 5, 3), "T8");

@@ -36,8 +36,8 @@
 #include <stdint.h>
 
 /* The version of this header: ten thousand times the major number, a hundred times the minor one, and the patch. */
-#define PSIC_VERSION 20200u
-#define PSIC_VERSION_TEXT "2.2.0"
+#define PSIC_VERSION 30000u
+#define PSIC_VERSION_TEXT "3.0.0"
 
 /* The largest sizes: "n sources, 1 to 128", "m cores, 1 to 32". */
 #define PSIC_MAX_SOURCES 128u
@@ -71,7 +71,7 @@ extern "C" {
 
 /* The eight commands, with document 01's effect of each before settling. */
 typedef enum {
-    PSIC_SET_SOURCE_PRIORITY = 0, /* "configured priority only; a pending request keeps its own" */
+    PSIC_SET_SOURCE_PRIORITY = 0, /* "configured priority only"; refused on a pending source */
     PSIC_MASK = 1,                /* "sets the mask; a box keeps what it has" */
     PSIC_UNMASK = 2,              /* the same */
     PSIC_SET_CORE_PRIORITY = 3,   /* "configured priority; every filled box, on all cores, becomes dirty" */
@@ -88,7 +88,7 @@ typedef enum {
 } psic_routine;
 
 /* Document 01's numbers for no, each with its row: "given exactly when, no earlier check refusing". They are checked in the order
- * 1, then 3 or 4, then 5, then 6, 7 or 8. */
+ * 1, then 3 or 4, then 5, then 6, 7, 8 or 9. */
 typedef enum {
     PSIC_OK = 0,
     PSIC_UNSOUND = 1,      /* "the state isn't sound, or a filled lent record is bad"; in a simulation "also unless each claimed request
@@ -101,6 +101,7 @@ typedef enum {
     PSIC_PENDING = 6,      /* "trigger of a pending source" */
     PSIC_EMPTY_BOX = 7,    /* "claim on an empty box, in a state or in a lent record"; "entry on an empty box" */
     PSIC_NOT_CLAIMED = 8,  /* "redeliver or complete of a request that isn't claimed"; "exit on an idle core" */
+    PSIC_PRIORITY_IN_USE = 9, /* document 02's: "set source priority on a pending source", also to the priority that it has */
     /* document 02's, of a recording: the first fault in reading order, at one place in the order 13, 19, 11, 12, 14 */
     PSIC_BAD_TEXT = 11,          /* "text against that grammar or a time above 2^64 - 1" */
     PSIC_BAD_VARIABLE = 12,      /* "a variable missing, repeated, of another name or width, or a code used twice, shown at the name, a
@@ -125,6 +126,7 @@ static inline const char *psic_in_words(unsigned number) {
     case PSIC_PENDING: return "the source is pending already";
     case PSIC_EMPTY_BOX: return "the box is empty";
     case PSIC_NOT_CLAIMED: return "the request isn't claimed";
+    case PSIC_PRIORITY_IN_USE: return "the source is pending, so its priority stays";
     case PSIC_BAD_TEXT: return "the text is against the grammar, or a time is above 2^64 - 1";
     case PSIC_BAD_VARIABLE: return "a variable is missing, repeated, of another name or width, or its code is used twice";
     case PSIC_UNKNOWN_VALUE: return "stb, or a value that the command uses, has an x or z";

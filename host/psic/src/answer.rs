@@ -60,7 +60,7 @@ impl fmt::Display for Answer {
 }
 
 /// Document 01's numbers for no, each with its row: "given exactly when, no earlier check refusing". They are checked in the order 1,
-/// then 3 or 4, then 5, then 6, 7 or 8. A refused call leaves everything as it was.
+/// then 3 or 4, then 5, then 6, 7, 8 or 9. A refused call leaves everything as it was.
 #[repr(u8)]
 #[non_exhaustive]
 #[derive(Clone, Copy, Debug, PartialEq, Eq, Hash)]
@@ -82,6 +82,8 @@ pub enum Refusal {
     EmptyBox = 7,
     /// 8: "redeliver or complete of a request that isn't claimed"; "exit on an idle core".
     NotClaimed = 8,
+    /// 9, document 02's: "set source priority on a pending source", also to the priority that it has.
+    PriorityInUse = 9,
     /// 255, none of document 01's: bytes that encode no state, or buffers that don't fit. A [`crate::Controller`] never answers it, nor
     /// do [`crate::Routines`].
     Unreadable = 255,
@@ -89,7 +91,7 @@ pub enum Refusal {
 
 impl Refusal {
     /// All refusals, by number.
-    pub const ALL: [Refusal; 9] = [
+    pub const ALL: [Refusal; 10] = [
         Refusal::Unsound,
         Refusal::BadSize,
         Refusal::BadCore,
@@ -98,6 +100,7 @@ impl Refusal {
         Refusal::Pending,
         Refusal::EmptyBox,
         Refusal::NotClaimed,
+        Refusal::PriorityInUse,
         Refusal::Unreadable,
     ];
 
@@ -124,6 +127,7 @@ impl Refusal {
             Refusal::Pending => "the source is pending already",
             Refusal::EmptyBox => "the box is empty",
             Refusal::NotClaimed => "the request isn't claimed",
+            Refusal::PriorityInUse => "the source is pending, so its priority stays",
             Refusal::Unreadable => "the bytes can't be read",
         }
     }

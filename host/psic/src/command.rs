@@ -13,7 +13,7 @@ pub const COMMAND_SIZE: usize = 5;
 #[non_exhaustive]
 #[derive(Clone, Copy, Debug, PartialEq, Eq, Hash)]
 pub enum Command {
-    /// 0: "configured priority only; a pending request keeps its own".
+    /// 0: "configured priority only"; refused on a pending source.
     SetSourcePriority(SourceId, u16),
     /// 1: "sets the mask; a box keeps what it has".
     Mask(SourceId),

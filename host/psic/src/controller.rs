@@ -85,7 +85,7 @@ impl Controller {
         answers.into_iter().map(Answer::from_bytes).collect()
     }
 
-    /// Sets the priority of the source's next request. A pending one keeps its own.
+    /// Sets the priority of the source's next request. [`Refusal::PriorityInUse`] while one is pending.
     pub fn set_source_priority(
         &mut self,
         source: SourceId,

@@ -15,6 +15,7 @@ fn name_of_refusal(refusal: Refusal) -> &'static str {
         Refusal::Pending => "PSIC_PENDING",
         Refusal::EmptyBox => "PSIC_EMPTY_BOX",
         Refusal::NotClaimed => "PSIC_NOT_CLAIMED",
+        Refusal::PriorityInUse => "PSIC_PRIORITY_IN_USE",
         Refusal::Unreadable => "PSIC_UNREADABLE",
         _ => panic!("{refusal:?} has no name in the header"),
     }

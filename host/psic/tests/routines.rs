@@ -135,6 +135,7 @@ fn a_refused_call_changes_nothing() {
         ("unmask 4", Refusal::BadSource),
         ("set source 1 to 8", Refusal::BadPriority),
         ("trigger 1", Refusal::Pending),
+        ("set source 1 to 1", Refusal::PriorityInUse),
     ] {
         let call: RoutineCall = line.parse().expect("a call");
         assert_eq!(routines.call(call, &mut handovers), Err(refusal), "{line}");

@@ -159,8 +159,8 @@ impl HandedBack {
 
 impl<L: Model, R: Model> Comparison<'_, L, R> {
     /// Runs the whole workload that the seed determines: makings of any sizes, a history of this
-    /// length by single commands and as one list, broken states made from its end, lists from there
-    /// and from such states, and lent records.
+    /// length by single commands and as one list, sound and broken states made from its end, lists
+    /// from there and from such states, and lent records.
     pub fn round(&self, length: usize) -> Option<Difference> {
         let mut random = Random::new(self.seed);
         let (n, m) = generate::sizes(&mut random);
@@ -170,6 +170,7 @@ impl<L: Model, R: Model> Comparison<'_, L, R> {
         self.makings(&mut random)
             .or_else(|| self.history(&history))
             .or_else(|| self.list(&history))
+            .or_else(|| self.set_apart(&mut random, &end))
             .or_else(|| self.broken_states(&mut random, &end))
             .or_else(|| self.lists(&mut random, &end))
             .or_else(|| self.borrowed_records(&mut random))
@@ -211,12 +212,27 @@ impl<L: Model, R: Model> Comparison<'_, L, R> {
         self.run(Place { part, index: 0 }, state, &listed(commands))
     }
 
-    /// Puts lists of several lengths, whole ones and ones with a number above 7 in them, to a sound state and to states made from it that
-    /// violate each clause.
+    /// Goes on from a sound state whose requests differ from their sources in priority, by single commands and as one list.
+    pub fn set_apart(&self, random: &mut Random, sound: &Controller) -> Option<Difference> {
+        let state = generate::set_apart(random, sound);
+        let part = &format!("sources set apart at n = {}, m = {}", state.n, state.m);
+        let mix = random.pick(&Mix::ALL);
+        let commands = generate::commands_from(random.bits(), &state, 60, mix);
+        let (mut left, mut right) = (self.left.load(&state), self.right.load(&state));
+        let mut each = commands.iter().enumerate();
+        let single = each.find_map(|(index, &command)| {
+            self.execute(Place { part, index }, &mut left, &mut right, command)
+        });
+        single.or_else(|| self.run(Place { part, index: 0 }, &state, &listed(&commands)))
+    }
+
+    /// Puts lists of several lengths, whole ones and ones with a number above 7 in them, to a sound state, to one made from it whose
+    /// requests differ from their sources in priority, and to such that violate each clause.
     pub fn lists(&self, random: &mut Random, sound: &Controller) -> Option<Difference> {
         let broken = damage::violated_singly(random, sound);
         let broken = broken.into_iter().map(|(_, state)| state);
-        let mut states = std::iter::once(sound.clone()).chain(broken).enumerate();
+        let apart = generate::set_apart(random, sound);
+        let mut states = [sound.clone(), apart].into_iter().chain(broken).enumerate();
         states.find_map(|(index, state)| {
             let part = &format!("lists on a state that violates {:?}", violated(&state));
             let lists = generate::lists_from(random, sound);

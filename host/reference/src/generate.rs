@@ -70,6 +70,17 @@ pub fn commands_from(seed: u64, sound: &Controller, length: usize, mix: Mix) -> 
     (0..length).map(|_| generator.command()).collect()
 }
 
+/// The same state with any configured priorities under its pending requests: sound, and no history
+/// from a fresh controller ends in it unless they are the requests' own (request 5/14).
+pub fn set_apart(random: &mut Random, sound: &Controller) -> Controller {
+    let mut apart = sound.clone();
+    let top = top_priority(sound.n);
+    for id in sound.ids().filter(|&id| sound.source(id).pending) {
+        apart.source_mut(id).configured = random.within(1..=top);
+    }
+    apart
+}
+
 /// Lists for a sound state, or one made from it: of no command, of one, of two and of 3 to 40, each
 /// once whole, and once with a number above 7 in the place of a command.
 pub fn lists_from(random: &mut Random, sound: &Controller) -> Vec<Vec<Listed>> {
@@ -463,7 +474,8 @@ impl Generator {
         match kind {
             Kind::SetSourcePriority => {
                 let priority = random.pick(&self.palette);
-                Some(Command::SetSourcePriority(any_id, priority))
+                pick_source(random, controller, |source| !source.pending)
+                    .map(|id| Command::SetSourcePriority(id, priority))
             }
             Kind::Mask => Some(Command::Mask(any_id)),
             Kind::Unmask => Some(Command::Unmask(any_id)),
@@ -573,7 +585,15 @@ impl Generator {
             }
             Kind::Redeliver => pick_claimed(random, controller, false).map(Command::Redeliver),
             Kind::Complete => pick_claimed(random, controller, false).map(Command::Complete),
-            Kind::SetSourcePriority | Kind::Mask | Kind::Unmask | Kind::SetCorePriority => None,
+            Kind::SetSourcePriority => {
+                let other = random.pick(&self.palette);
+                let id = pick_source(random, controller, |source| source.pending)?;
+                // Also the priority that it has.
+                let own = controller.source(id).configured;
+                let priority = random.pick(&[other, own]);
+                Some(Command::SetSourcePriority(id, priority))
+            }
+            Kind::Mask | Kind::Unmask | Kind::SetCorePriority => None,
         }
     }
 }

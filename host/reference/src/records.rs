@@ -279,6 +279,8 @@ pub enum Refusal {
     Empty = 7,
     /// 8: redeliver or complete of a request that isn't claimed.
     NotClaimed = 8,
+    /// 9: set source priority on a pending source (request 5/14).
+    InUse = 9,
 }
 
 impl Refusal {

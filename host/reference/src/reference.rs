@@ -36,7 +36,7 @@ pub fn execute(controller: &mut Controller, command: Command) -> Answer {
     }
 }
 
-/// Whether the command is taken. Order: 1, then 3 or 4, then 5, then 6, 7 or 8.
+/// Whether the command is taken. Order: 1, then 3 or 4, then 5, then 6, 7, 8 or 9.
 pub fn check(controller: &Controller, command: Command) -> Result<(), Refusal> {
     refuse_if(!well_formed(controller), Refusal::Unsound)?;
     check_command(controller, command)
@@ -48,7 +48,9 @@ pub fn check_command(controller: &Controller, command: Command) -> Result<(), Re
     match command {
         Command::SetSourcePriority(id, priority) => {
             check_source(controller, id)?;
-            refuse_if(priority == 0 || priority > top, Refusal::Priority)
+            refuse_if(priority == 0 || priority > top, Refusal::Priority)?;
+            // Request 5/14: checked after 5.
+            refuse_if(controller.source(id).pending, Refusal::InUse)
         }
         Command::Mask(id) | Command::Unmask(id) => check_source(controller, id),
         Command::SetCorePriority(core, priority) => {
@@ -91,7 +93,7 @@ fn refuse_if(refused: bool, refusal: Refusal) -> Result<(), Refusal> {
 /// The effect before settling of a command that isn't refused. Gives the answered id.
 pub fn apply(controller: &mut Controller, command: Command) -> u16 {
     match command {
-        // Configured priority only; a pending request keeps its own.
+        // Configured priority only; nothing is pending.
         Command::SetSourcePriority(id, priority) => {
             controller.source_mut(id).configured = priority;
         }

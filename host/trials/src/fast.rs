@@ -277,6 +277,9 @@ impl Controller {
                 if p == 0 || p > top {
                     return Err(5);
                 }
+                if r.pending {
+                    return Err(9);
+                }
                 r.configured = p;
                 return Ok((0, true));
             }

@@ -238,6 +238,7 @@ impl Controller {
             Command::SetSourcePriority(id, p) => {
                 let i = self.source(id)?;
                 refuse_if(p == 0 || p > self.top(), 5)?;
+                refuse_if(self.sources.pending[i], 9)?;
                 self.sources.configured[i] = p;
                 Ok((0, 0))
             }

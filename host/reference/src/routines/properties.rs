@@ -19,8 +19,8 @@ pub struct Seen {
     pub waiting_at_rest: usize,
     /// Calls after which no box is filled, and a core idles.
     pub idle_at_rest: usize,
-    /// Calls by the number that they answered, 0 to 8.
-    pub numbers: [usize; 9],
+    /// Calls by the number that they answered, 0 to 9.
+    pub numbers: [usize; 10],
 }
 
 /// A simulation that is followed call by call.
@@ -82,7 +82,7 @@ impl<'a, S: Simulator> Followed<'a, S> {
 
     fn see(&mut self, before: &Routines, call: Call, answer: Answer, after: &Routines) {
         let seen = &mut self.seen;
-        seen.numbers[usize::from(answer.number).min(8)] += 1;
+        seen.numbers[usize::from(answer.number).min(9)] += 1;
         if let (Call::Enter(core), 0) = (call, answer.number) {
             let holder = before.holder(SourceId(answer.id));
             seen.handovers += usize::from(history::newest_handover(&self.history).is_some());

@@ -340,7 +340,8 @@ impl Generator {
         match kind {
             Kind::SetSourcePriority => {
                 let priority = random.pick(&self.palette);
-                Some(Call::SetSourcePriority(any_id, priority))
+                pick_source(random, controller, |s| !s.pending)
+                    .map(|id| Call::SetSourcePriority(id, priority))
             }
             Kind::Mask => Some(Call::Mask(any_id)),
             Kind::Unmask => Some(Call::Unmask(any_id)),
@@ -400,7 +401,14 @@ impl Generator {
             Kind::Trigger => pick_source(random, controller, |s| s.pending).map(Call::Trigger),
             Kind::Enter => pick_core(random, controller, |c| !c.message.filled).map(Call::Enter),
             Kind::Exit => pick_running(random, routines, false).map(Call::Exit),
-            Kind::SetSourcePriority | Kind::Mask | Kind::Unmask => None,
+            Kind::SetSourcePriority => {
+                let other = random.pick(&self.palette);
+                let id = pick_source(random, controller, |s| s.pending)?;
+                let own = controller.source(id).configured;
+                let priority = random.pick(&[other, own]);
+                Some(Call::SetSourcePriority(id, priority))
+            }
+            Kind::Mask | Kind::Unmask => None,
         }
     }
 }

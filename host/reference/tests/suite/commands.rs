@@ -3,7 +3,7 @@
 use psic_reference::damage;
 use psic_reference::generate::{self, Mix};
 use psic_reference::random::{run_seed, Random};
-use psic_reference::records::{Answer, Command, Controller};
+use psic_reference::records::{Answer, Command, Controller, Source};
 use psic_reference::reference::execute;
 use psic_reference::well_formed::well_formed;
 
@@ -230,10 +230,76 @@ fn complete_leaves_a_blank_request() {
 fn redelivered_request_keeps_its_priority() {
     let mut run = Run::table();
     run.accept(trigger(4));
-    run.accept(set_source(4, 9));
     run.accept(claim(0));
     run.settles(redeliver(4), 1, [4, 4]);
     assert_eq!(run.source(4).request, 4);
+}
+
+/// Request 5/14: waiting, in a box, claimed, masked or not, also to the priority that it has.
+#[test]
+fn priority_of_a_pending_source_stays() {
+    let mut run = Run::table();
+    let standings: [(&[Command], u16); 5] = [
+        (&[mask(3), trigger(3)], 3),
+        (&[trigger(4)], 4),
+        (&[mask(4)], 4),
+        (&[claim(0)], 4),
+        (&[trigger(5), trigger(6), trigger(2)], 2),
+    ];
+    for (commands, id) in standings {
+        for &command in commands {
+            run.accept(command);
+        }
+        for priority in [1, id, 9, 127] {
+            run.refuses(set_source(id, priority), 9);
+        }
+    }
+    run.accept(complete(4));
+    run.settles(set_source(4, 9), 0, [6, 5]);
+    run.accept(unmask(4));
+    run.settles(trigger(4), 1, [6, 9]);
+}
+
+/// Request 5/14: "checked after 5". Id 0 would stand where the last source does, or the first.
+#[test]
+fn id_and_priority_are_checked_before_a_pending_request() {
+    let mut run = Run::table();
+    for id in 1..=32 {
+        run.accept(trigger(id));
+    }
+    for id in [0, 33, 129, 257, 65535] {
+        run.refuses(set_source(id, 1), 4);
+    }
+    for priority in [0, 128, 512, 65535] {
+        run.refuses(set_source(4, priority), 5);
+    }
+    run.controller.cores[0].message.dirty = true;
+    run.refuses(set_source(4, 9), 1);
+}
+
+/// Request 5/14: from a fresh controller. Other sound states are taken as they are.
+#[test]
+fn pending_request_has_its_sources_priority_in_every_history() {
+    for history in random_histories(run_seed() ^ 5, 100, 400) {
+        for_each_step(&history, |index, step| {
+            let apart = |s: &&Source| s.pending && s.request != s.configured;
+            let found = step.after.used_sources().iter().find(apart);
+            assert_eq!(found, None, "seed {}, index {index}", history.seed);
+        });
+    }
+}
+
+/// No clause of soundness asks for it.
+#[test]
+fn sources_set_apart_from_their_requests_are_sound() {
+    let mut random = Random::new(run_seed());
+    for history in random_histories(run_seed() ^ 6, 40, 200) {
+        let sound = generate::final_state(&history);
+        let apart = generate::set_apart(&mut random, &sound);
+        assert!(well_formed(&apart), "seed {}", history.seed);
+        let mut after = apart.clone();
+        assert_eq!(execute(&mut after, mask(1)).number, 0);
+    }
 }
 
 #[test]

@@ -86,6 +86,40 @@ fn every_wrong_count_is_found() {
     }
 }
 
+/// Request 5/14: by the answer to set source priority; the clause that it doesn't ask for by number 1.
+#[test]
+fn every_wrong_setting_is_found() {
+    for fault in Fault::SETTINGS {
+        let found = first_difference(&Faulty { fault }, 60);
+        let Difference { left, right, .. } = found.unwrap_or_else(|| panic!("{fault:?}"));
+        let unsound = right.1.number == 1 && left.1.number != 1;
+        assert_eq!(unsound, fault.adds_a_clause(), "{fault:?}");
+        let numbers = [left.1.number, right.1.number];
+        assert!(unsound || numbers.contains(&9), "{fault:?}: {numbers:?}");
+    }
+}
+
+/// The seller's error 4 shows in no history from a fresh controller, since request 5/14 refuses the command before it.
+#[test]
+fn configured_for_request_is_found_from_sources_set_apart_alone() {
+    let fault = Fault::ConfiguredForRequest;
+    let mut told = 0;
+    for seed in run_seeds(40) {
+        let comparison = Comparison {
+            left: &Reference,
+            right: &Faulty { fault },
+            seed,
+        };
+        let mix = Mix::ALL[seed as usize % Mix::ALL.len()];
+        let history = generate::history(seed, 8, 3, 300, mix);
+        assert_eq!(comparison.history(&history), None);
+        let end = generate::final_state(&history);
+        let found = comparison.set_apart(&mut Random::new(seed), &end);
+        told += usize::from(found.is_some());
+    }
+    assert!(told > 0);
+}
+
 /// Request 2/14's clause. A state that is sound or isn't tells, by number 1 on one side alone.
 #[test]
 fn every_wrong_clause_is_found() {

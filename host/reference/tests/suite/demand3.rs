@@ -314,7 +314,6 @@ fn faults_that_show_in_the_priorities_are_found() {
         Fault::BoxNamesAnIdleSource,
         Fault::BoxesOneOfTwoEqualRequestsTwice,
         Fault::OnlyWrittenBoxDirty,
-        Fault::ConfiguredForRequest,
         Fault::CompleteLowersTheCore,
         Fault::BoxedRequestsComplete,
         Fault::FilledBoxBeforeALowerPriority,

@@ -12,7 +12,8 @@ use crate::histories::{
 };
 
 /// After every command demand 3 holds with every placement tried, a refused command has changed
-/// nothing, and the state is sound: no command is answered by 1.
+/// nothing, a pending request's priority is its source's (request 5/14), and the state is sound: no
+/// command is answered by 1.
 fn assert_every_history(n: u16, m: u16) {
     let commands = alphabet(n, m, &[1, 2, 3], &[0, 1, 2, 3]);
     for_every_history(n, m, &commands, |step| {
@@ -28,6 +29,8 @@ fn assert_every_history(n: u16, m: u16) {
             "{:?}",
             step.command
         );
+        let mut sources = step.after.used_sources().iter();
+        assert!(sources.all(|source| !source.pending || source.request == source.configured));
     });
 }
 

@@ -71,6 +71,17 @@ pub enum Fault {
     /// At most d for each candidate, not d + 1.
     CountsAtMostTheDepth,
     CountsLongLists,
+    // Settings of a source's priority that request 5/14 rules out.
+    InUseBeforeThePriority,
+    InUseBeforeTheId,
+    OnlyWaitingProtected,
+    ClaimedOpenToChange,
+    SamePriorityAccepted,
+    IdleSourceRefused,
+    NotClaimedForInUse,
+    /// A state whose requests differ from their sources in priority is taken for broken.
+    SetApartUnsound,
+    WithoutRequest5,
     // What demand 3 alone can tell.
     Reports2mPlus1Cycles,
     BoxNamesAnIdleSource,
@@ -180,12 +191,30 @@ impl Fault {
         Fault::CountsLongLists,
     ];
 
+    /// Wrong answers to set source priority on pending and on idle sources, and the clause that request 5/14 doesn't ask for.
+    pub const SETTINGS: [Fault; 9] = [
+        Fault::InUseBeforeThePriority,
+        Fault::InUseBeforeTheId,
+        Fault::OnlyWaitingProtected,
+        Fault::ClaimedOpenToChange,
+        Fault::SamePriorityAccepted,
+        Fault::IdleSourceRefused,
+        Fault::NotClaimedForInUse,
+        Fault::SetApartUnsound,
+        Fault::WithoutRequest5,
+    ];
+
+    /// Of the wrong settings one is a clause of a sound state; the others answer set source priority.
+    pub fn adds_a_clause(self) -> bool {
+        self == Fault::SetApartUnsound
+    }
+
     /// Of the wrong clauses one refuses sound states; the others take broken ones.
     pub fn is_too_strict(self) -> bool {
         self == Fault::ClauseOfTheLeastCurrent
     }
 
-    /// All faults but the ties, the clauses, the counts, the forgotten ones and the written fields.
+    /// All faults but the ties, the clauses, the counts, the settings, the forgotten ones and the written fields.
     pub const ALL: [Fault; 25] = [
         Fault::AtLeast,
         Fault::OnlyWrittenBoxDirty,
@@ -235,6 +264,10 @@ impl Faulty {
         if self.has(Fault::ClauseOfOtherBoxes) {
             violated.retain(|&clause| clause != Clause::BoxAboveConfigured);
         }
+        let apart = |s: &Source| s.pending && s.request != s.configured;
+        if self.has(Fault::SetApartUnsound) && controller.sources.iter().any(apart) {
+            return false;
+        }
         violated.is_empty() && self.wrong_clause_holds(controller)
     }
 
@@ -272,11 +305,49 @@ impl Faulty {
             {
                 Err(Refusal::Priority)
             }
+            (checked, Command::SetSourcePriority(id, priority)) => {
+                self.setting(controller, id, priority, checked)
+            }
             (Err(Refusal::NotClaimed), Command::Complete(id))
                 if self.has(Fault::BoxedRequestsComplete) && controller.is_boxed(id) =>
             {
                 Ok(())
             }
+            _ => checked,
+        }
+    }
+
+    /// What a wrong setting of a source's priority makes of the right check.
+    fn setting(
+        &self,
+        controller: &Controller,
+        id: SourceId,
+        priority: u16,
+        checked: Result<(), Refusal>,
+    ) -> Result<(), Refusal> {
+        if checked == Err(Refusal::Unsound) {
+            return checked;
+        }
+        // Of an id out of range the record that its low bits name.
+        let near = SourceId(id.0.wrapping_sub(1) % controller.n + 1);
+        let source = controller.source(near);
+        match (self.fault, checked) {
+            (Fault::InUseBeforeThePriority, Err(Refusal::Priority))
+            | (Fault::InUseBeforeTheId, Err(Refusal::Source))
+                if source.pending =>
+            {
+                Err(Refusal::InUse)
+            }
+            (Fault::OnlyWaitingProtected, Err(Refusal::InUse)) if !source.is_waiting() => Ok(()),
+            (Fault::ClaimedOpenToChange, Err(Refusal::InUse)) if controller.is_claimed(id) => {
+                Ok(())
+            }
+            (Fault::SamePriorityAccepted, Err(Refusal::InUse)) if priority == source.configured => {
+                Ok(())
+            }
+            (Fault::IdleSourceRefused, Ok(())) => Err(Refusal::InUse),
+            (Fault::NotClaimedForInUse, Err(Refusal::InUse)) => Err(Refusal::NotClaimed),
+            (Fault::WithoutRequest5, Err(Refusal::InUse)) => Ok(()),
             _ => checked,
         }
     }

@@ -32,15 +32,16 @@ fn about_one_command_in_eight_is_refused() {
 
 #[test]
 fn every_number_for_no_but_1_and_2_occurs_in_histories() {
-    let mut seen = [false; 9];
+    let mut seen = [0; 10];
     for history in random_histories(run_seed(), 60, 500) {
         for_each_step(&history, |_, step| {
-            seen[usize::from(step.answer.number)] = true;
+            seen[usize::from(step.answer.number)] += 1;
         });
     }
+    println!("{seen:?}");
     // Refusals 1 and 2 belong to broken states, to making and to lent lists.
-    let expected = [true, false, false, true, true, true, true, true, true];
-    assert_eq!(seen, expected);
+    assert_eq!(seen[1..3], [0, 0]);
+    assert!(seen[3..].iter().all(|&count| count > 100), "{seen:?}");
 }
 
 #[test]

@@ -208,8 +208,10 @@ fn numbers_for_no_come_in_their_order() {
     run.refuses(set_source(33, 0), 4);
     run.refuses(set_source(4, 0), 5);
     run.refuses(set_source(4, 128), 5);
-    // A running request keeps its priority; document 02's 9 comes with a later request.
-    run.answers(set_source(4, 127), 0, 0, [4, 0]);
+    // Request 5/14: a running request keeps its priority.
+    run.refuses(set_source(4, 127), 9);
+    run.refuses(set_source(4, 4), 9);
+    run.answers(set_source(5, 127), 0, 0, [4, 0]);
     run.answers(mask(4), 0, 0, [4, 0]);
     assert_eq!(run.0.simulation().routines.controller.sources[3].request, 4);
 }
@@ -469,7 +471,7 @@ fn every_run_of_a_small_size_holds() {
     ] {
         let (reached, handovers) = every_run(Routines::fresh(n, m), &alphabet(n, m, priorities));
         println!("n = {n}, m = {m}: {reached} simulations");
-        assert!(reached > 50 && handovers == 0);
+        assert!(reached > 20 && handovers == 0);
     }
 }
 

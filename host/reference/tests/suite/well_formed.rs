@@ -400,11 +400,17 @@ fn sound_states_of_one_source_and_two_cores_are_as_counted() {
     assert_eq!(sound, 32 + 96 + 80 + 48 + 14);
 }
 
+/// Of the sound states those whose request has its source's priority (request 5/14). Counted by hand:
+/// not pending, 24; claimed, 3 priorities, 4 core priorities and the mask, 24; boxed, 12; waiting
+/// masked, 12; waiting unmasked, 6.
 #[test]
-fn every_sound_state_of_one_source_and_one_core_is_reached() {
+fn every_sound_state_of_one_source_and_one_core_with_one_priority_is_reached() {
     let commands = alphabet(1, 1, &[1, 2, 3], &[0, 1, 2, 3]);
-    let reached = for_every_history(1, 1, &commands, |_| {});
-    assert_eq!(reached, SOUND_AT_ONE_SOURCE_AND_ONE_CORE);
+    let reached = for_every_history(1, 1, &commands, |step| {
+        let source = step.after.sources[0];
+        assert!(!source.pending || source.request == source.configured);
+    });
+    assert_eq!(reached, 24 + 24 + 12 + 12 + 6);
 }
 
 /// Counted by hand, priorities up to 2: a box of 2 on a core at 1, the other of 1 on a core at 0.

@@ -6,9 +6,9 @@
 //!
 //! Each text is read, one in four also replayed, and the totals are printed by number.
 //!
-//! Each round of commands runs, from one printed seed, makings of any sizes, a history by single commands and as a list, one command of
-//! each kind and all of them as a list on broken states made from its end, lists of several lengths from its end and from such states, and
-//! lent records. Each round of calls does the same with a run of the interrupt routines and broken simulations. The first difference ends
+//! Each round of commands runs, from one printed seed, makings of any sizes, a history by single commands and as a list, the same from a
+//! sound state made from its end, one command of each kind and all of them as a list on broken states made from its end, lists of several
+//! lengths from its end and from such states, and lent records. Each round of calls does the same with a run of the interrupt routines and broken simulations. The first difference ends
 //! a run with status 1.
 
 use std::time::{SystemTime, UNIX_EPOCH};
