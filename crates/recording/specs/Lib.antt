@@ -6,6 +6,7 @@
 --   Stamps        the end of a stamp: the command that is taken, faults 13 and 19
 --   Reading       what each word does at its place, the end of the text, and the whole reading
 --   Replay        the replay from a fresh controller
+--   Writing       the text that is written of a run of commands
 --   Calls         what the calls for hosts answer and write
 --   Faults        when each fault is shown, number by number, and their order
 --   Grammar       the grammar as derivations, beside the reading
@@ -19,6 +20,7 @@ pub mod Declarations
 pub mod Stamps
 pub mod Reading
 pub mod Replay
+pub mod Writing
 pub mod Calls
 pub mod Faults
 pub mod Grammar
