@@ -1,3 +1,4 @@
 -- What is proved of a recording's definitions.
 pub mod Examples
 pub mod CallExamples
+pub mod WrittenExamples

@@ -12,7 +12,9 @@
 --   Grammar       the grammar as derivations, beside the reading
 --   Texts         worked texts, with what each of them says
 --   CallTexts     worked texts of the times, of the replay and of the calls
---   Statements    what is claimed of all this, as propositions; their proofs are in the crates above this one
+--   WrittenTexts  worked texts as they are written, and of the call that writes them
+--   Statements    what is claimed of readings and replays, as propositions; their proofs are in the crates above this one
+--   WritingStatements    what is claimed of written texts
 pub mod Words
 pub mod Values
 pub mod Records
@@ -26,4 +28,6 @@ pub mod Faults
 pub mod Grammar
 pub mod Texts
 pub mod CallTexts
+pub mod WrittenTexts
 pub mod Statements
+pub mod WritingStatements
