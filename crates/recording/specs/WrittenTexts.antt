@@ -72,7 +72,8 @@ accepts text long behind = writeCallOf (256 * long) (bytesOf text ++ lent behind
 -- A command's text after the definitions, at the stamps 0 and 1.
 abbrev pub alone : String → String → String → String → String
 alone cmd core arg prio =
-    definitionLines ++ˢ ("#0\nb" ++ˢ (cmd ++ˢ (" \"\nb" ++ˢ (core ++ˢ (" #\nb" ++ˢ (arg ++ˢ (" $\nb" ++ˢ (prio ++ˢ " %\n1!\n#1\n0!\n"))))))))
+    definitionLines ++ˢ
+    ("#0\nb" ++ˢ (cmd ++ˢ (" \"\nb" ++ˢ (core ++ˢ (" #\nb" ++ˢ (arg ++ˢ (" $\nb" ++ˢ (prio ++ˢ " %\n1!\n#1\n0!\n"))))))))
 
 abbrev pub WriteCases : Type 0
 WriteCases =

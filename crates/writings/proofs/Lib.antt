@@ -1,0 +1,2 @@
+-- What holds of every written recording.
+pub mod Digits
