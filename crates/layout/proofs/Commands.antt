@@ -16,7 +16,7 @@ use Rattle.layout.proofs.Records.{word-back}
 use Rattle.lists.proofs.Rows.{length-joined}
 use Rattle.layout.proofs.Octets.{Octets, none, next, are-bytes, octets-append, octets-word}
 
-number-small : (c : Command) → numberOf c < 8
+pub number-small : (c : Command) → numberOf c < 8
 number-small (OnSource id (SetSourcePriority p)) = omega arith
 number-small (OnSource id Mask) = omega arith
 number-small (OnSource id Unmask) = omega arith

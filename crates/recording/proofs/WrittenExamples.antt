@@ -1,5 +1,5 @@
 -- The worked texts as they are written, and the worked cases of the call, hold of the definitions. Assumes nothing.
-use mathlib.Core.Path.{_≡_, refl}
+use mathlib.Core.Path.{refl}
 use Rattle.lists.specs.Rows.{joined}
 use Rattle.layout.specs.Bytes.{inFives}
 use Rattle.layout.specs.BytesCases.{times}

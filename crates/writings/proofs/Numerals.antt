@@ -1,17 +1,16 @@
 -- A written number as the bytes of a word: no separator is in it, and it is read as the number that it was. Assumes nothing.
 --   decimal-read     a time
 --   binary-read      a vector, where the number fits a width of at most 16 bits
-use Prim.Native.Nat.{ℕ, zero, suc, _+_, _-_, _^_, _<_, _≤_, min}
-use mathlib.Core.Path.{_≡_, refl, sym, ap, _∙_}
+use Prim.Native.Nat.{ℕ, zero, suc, _+_, _-_, _^_, _<_, _≤_}
+use mathlib.Core.Path.{_≡_, refl, ap, _∙_}
 use mathlib.Core.List.{List, [], _∷_, map, List·Memᴰ, List·Memᴰ·head as here, List·Memᴰ·tail as there}
-use mathlib.Core.Bool.{Bool, true, false, not}
+use mathlib.Core.Bool.{Bool, true, not}
 use native.Mathlib.Omega.{arith}
 use native.Mathlib.Nat.{not-suc-le-zero, min-eq-right, pow-le-pow-right}
 use lib.ListN.{length, length-map}
-use lib.Dec.{leb, eqb}
 use borrow.Author.Tests.{le-leb, ne-eqb}
 use Rattle.lists.proofs.Bools.{and-in}
-use Rattle.recording.specs.Words.{all, isEmpty, separator}
+use Rattle.recording.specs.Words.{all, isEmpty}
 use Rattle.recording.specs.Values.{numeral, isDigit, isDecimal, digitOf, decimal, isBit, bitOf, isDefinite, bitNumber, value, valueOf}
 use Rattle.recording.specs.Values.{vectorWith, vectorOf}
 use Rattle.recording.specs.Writing.{digits, digitByte, numeralBytes}
