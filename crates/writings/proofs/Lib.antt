@@ -5,9 +5,17 @@
 --   Lines        what each line of a command does to the reader
 --   Runs         a run, command by command
 --   RoundTrip    a written run is read back, with its times
+--   Lengths      how long it is at most
+--   Whole        whether bytes are whole commands
+--   Refusals     which number the call that writes answers
+--   Told         what it leaves in the buffer
 pub mod Digits
 pub mod Passages
 pub mod Numerals
 pub mod Lines
 pub mod Runs
 pub mod RoundTrip
+pub mod Lengths
+pub mod Whole
+pub mod Refusals
+pub mod Told
