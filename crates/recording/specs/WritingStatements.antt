@@ -101,7 +101,7 @@ WriteRefusalsExact =
     List·Memᴰ number (0 ∷ 15 ∷ 255 ∷ [])
 
 -- What the call leaves in the lent buffer.
-pub record Writes (list text : List ℕ) (call : WriteCall) : Type 0 where
+pub record TellsWriting (list text : List ℕ) (call : WriteCall) : Type 0 where
   pub same-length : length (call .text) ≡ length text
   -- accepted: the text, as long as the call tells, and then what was there before
   pub long : numberIn (call .result) ≡ 0 → lengthIn (call .result) ≡ length (written narrow (commandsIn list))
@@ -116,4 +116,4 @@ pub record Writes (list text : List ℕ) (call : WriteCall) : Type 0 where
       timesOf (take (lengthIn (call .result)) (call .text)) ≡ tabulated (length (commandsIn list)) (λ i. 2 * i)
 
 abbrev pub WriteTells : Type 0
-WriteTells = (list text : List ℕ) → Writes list text (writeCall list text)
+WriteTells = (list text : List ℕ) → TellsWriting list text (writeCall list text)

@@ -11,13 +11,13 @@ use Rattle.recording.specs.Declarations.{narrow}
 use Rattle.recording.specs.Reading.{reading, timesOf}
 use Rattle.recording.specs.Writing.{written}
 use Rattle.recording.specs.Calls.{writeCallOf, lengthIn, writtenInto, writeCall}
-use Rattle.recording.specs.WritingStatements.{Writes, WriteTells}
+use Rattle.recording.specs.WritingStatements.{TellsWriting, WriteTells}
 use Rattle.writings.proofs.RoundTrip.{written-is-read, written-times}
 use Rattle.writings.proofs.Refusals.{Accepted, Outcome, unread, refused, accepted, number-of, outcome}
 
 -- ---- a refused list
 
-refused-writes : (list text : List ℕ) (n : ℕ) → 0 < n → n < 256 → Writes list text (writeCallOf n text)
+refused-writes : (list text : List ℕ) (n : ℕ) → 0 < n → n < 256 → TellsWriting list text (writeCallOf n text)
 refused-writes list text n low high =
     record {
       same-length = refl;
@@ -50,7 +50,7 @@ module _ (list text : List ℕ) (a : Accepted (commandsIn list) text) where
   front-is : take (length t) (sets text 0 t) ≡ t
   front-is = ap (take (length t)) parts ∙ take-append-seam t (drop (length t) text)
 
-  accepted-writes : Writes list text (writtenInto cs text)
+  accepted-writes : TellsWriting list text (writtenInto cs text)
   accepted-writes =
       record {
         same-length = length-sets text 0 t;
@@ -65,7 +65,7 @@ module _ (list text : List ℕ) (a : Accepted (commandsIn list) text) where
 pub write-tells : WriteTells
 write-tells list text = go (outcome list text)
   where
-    go : Outcome list text → Writes list text (writeCall list text)
-    go (unread n e) = subst (Writes list text) (sym e) (refused-writes list text 255 (omega arith) (omega arith))
-    go (refused n u e) = subst (Writes list text) (sym e) (refused-writes list text 15 (omega arith) (omega arith))
-    go (accepted n a e) = subst (Writes list text) (sym e) (accepted-writes list text a)
+    go : Outcome list text → TellsWriting list text (writeCall list text)
+    go (unread n e) = subst (TellsWriting list text) (sym e) (refused-writes list text 255 (omega arith) (omega arith))
+    go (refused n u e) = subst (TellsWriting list text) (sym e) (refused-writes list text 15 (omega arith) (omega arith))
+    go (accepted n a e) = subst (TellsWriting list text) (sym e) (accepted-writes list text a)
