@@ -4,6 +4,7 @@
 --   DigitsExact           the digits of a number in a base, and that no other list is
 --   WrittenIsRead         a written run is read back, command by command
 --   WrittenTimes          command i is taken in stamp 2 i
+--   RecordedFits          what was read can be written, and RewrittenReplays: it is replayed as before
 --   WrittenBounded        how much a host has to lend at most
 --   WriteRefusalsExact    15 exactly when the request says, 255 exactly for a list that isn't whole commands
 --   WriteTells            what the call leaves in the buffer, and that it is read back
@@ -29,6 +30,7 @@ use Rattle.recording.specs.Values.{numeral}
 use Rattle.recording.specs.Declarations.{Form, narrow, forms, widthIn}
 use Rattle.recording.specs.Stamps.{maxCommands}
 use Rattle.recording.specs.Reading.{readingWith, reading, timesOf}
+use Rattle.recording.specs.Replay.{replayed}
 use Rattle.recording.specs.Writing.{digits, definitionText, written, writable}
 use Rattle.recording.specs.Calls.{WriteCall, lengthIn, writeCall}
 
@@ -63,6 +65,17 @@ WrittenIsRead = (f : Form) (cs : List Command) → Fits f cs → reading (writte
 -- Command i, counted from 0, is taken at the end of stamp 2 i.
 abbrev pub WrittenTimes : Type 0
 WrittenTimes = (f : Form) (cs : List Command) → Fits f cs → timesOf (written f cs) ≡ tabulated (length cs) (λ i. 2 * i)
+
+-- "Write a replayed run": the commands of every recording can be written, so that only a buffer that is too short is refused.
+abbrev pub RecordedFits : Type 0
+RecordedFits = (t : List ℕ) → Fits narrow ((reading t) .commands)
+
+-- Written anew, a recording is replayed to the same state, with the same answers.
+abbrev pub RewrittenReplays : Type 0
+RewrittenReplays =
+    (n m : ℕ) (t : List ℕ) →
+    let again = replayed n m (written narrow ((reading t) .commands)) in
+    (again .state ≡ (replayed n m t) .state) × (again .answers ≡ (replayed n m t) .answers)
 
 -- The longest command is set source priority, with id and priority as wide as their variables and times of six digits: 57 bytes where
 -- arg has 8 and prio has 9.

@@ -5,6 +5,7 @@
 --   Lines        what each line of a command does to the reader
 --   Runs         a run, command by command
 --   RoundTrip    a written run is read back, with its times
+--   Recorded     what was read can be written, and is replayed as before
 --   Lengths      how long it is at most
 --   Whole        whether bytes are whole commands
 --   Refusals     which number the call that writes answers
@@ -15,6 +16,7 @@ pub mod Numerals
 pub mod Lines
 pub mod Runs
 pub mod RoundTrip
+pub mod Recorded
 pub mod Lengths
 pub mod Whole
 pub mod Refusals
