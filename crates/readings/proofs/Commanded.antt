@@ -109,11 +109,10 @@ scalar-fits bz = omega arith
 
 -- ---- one variable written
 
-module _ (vs : Variables) (v v′ : Vector) (h : Fits vs v) (s : Signal) (x : Variable) where
-  written-fit : x .value .number < 2 ^ widthIn narrow s → (0 < x .code → x .width ≡ widthIn narrow s) →
-      v′ .value .number < 2 ^ v′ .length → Fits (withVariableOf vs s x) v′
-  written-fit number width in-vector =
-      record { below = λ s′. below-at s′ (compare s s′); width = λ s′. width-at s′ (compare s s′); in-vector = in-vector }
+module _ (vs : Variables) (v : Vector) (h : Fits vs v) (s : Signal) (x : Variable) where
+  written-fit : x .value .number < 2 ^ widthIn narrow s → (0 < x .code → x .width ≡ widthIn narrow s) → Fits (withVariableOf vs s x) v
+  written-fit number width =
+      record { below = λ s′. below-at s′ (compare s s′); width = λ s′. width-at s′ (compare s s′); in-vector = h .in-vector }
     where
       below-at : (s′ : Signal) → Compared s s′ → (variableOf (withVariableOf vs s x) s′) .value .number < 2 ^ widthIn narrow s′
       below-at s′ (same e) =
@@ -144,8 +143,8 @@ module _ (r : Reader) (w : Word) (h : Fit r) where
 
   declaring-fit : (s : Signal) → declares r s ≡ true → Fit (declaring s r)
   declaring-fit s e =
-      written-fit (r .variables) (r .pending .vector) (r .pending .vector) h s
-      (variableWith (r .pending .code) (r .pending .width) ((variable r s) .value)) (h .below s) (λ c. declares-width s e) (h .in-vector)
+      written-fit (r .variables) (r .pending .vector) h s
+      (variableWith (r .pending .code) (r .pending .width) ((variable r s) .value)) (h .below s) (λ c. declares-width s e)
 
   name-fit : (o : Option Signal) → Fit (readName o r w)
   unfolding readName
@@ -162,9 +161,9 @@ module _ (r : Reader) (w : Word) (h : Fit r) where
       either (isVector (w .bytes)) _ _
       (record { below = h .below; width = h .width; in-vector = vector-fits (tail (w .bytes)) })
       (either (isScalar r (w .bytes)) _ _
-      (written-fit (r .variables) (r .pending .vector) (r .pending .vector) h Stb
+      (written-fit (r .variables) (r .pending .vector) h Stb
       (variableWith (r .variables .stb .code) (r .variables .stb .width) (valueOf (bitOf (getD (w .bytes) 0 0) ∷ [])))
-      (scalar-fits (bitOf (getD (w .bytes) 0 0))) (h .width Stb) (h .in-vector)) h)
+      (scalar-fits (bitOf (getD (w .bytes) 0 0))) (h .width Stb)) h)
 
   -- what fits a vector that is no longer than its variable
   given-fit : (s : Signal) → 0 < (variable r s) .code → r .pending .vector .length ≤ (variable r s) .width →
@@ -173,9 +172,8 @@ module _ (r : Reader) (w : Word) (h : Fit r) where
       let length = r .pending .vector .length in
       let top : 2 ^ length ≤ 2 ^ widthIn narrow s
       = pow-le-pow-right {n = 2} (omega arith) {i = length} {j = widthIn narrow s} (omega (arith, h .width s d)) in
-      written-fit (r .variables) (r .pending .vector) (r .pending .vector) h s
+      written-fit (r .variables) (r .pending .vector) h s
       (variableWith ((variable r s) .code) ((variable r s) .width) (r .pending .vector .value)) (omega (arith, h .in-vector)) (h .width s)
-      (h .in-vector)
 
   code-fit : (p : Place) (o : Option Signal) → vectorSignal r (w .bytes) ≡ o → Fit (readVectorCode p o r w)
   unfolding readVectorCode

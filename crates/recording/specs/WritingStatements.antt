@@ -86,7 +86,7 @@ WrittenBounded =
 
 -- ---- the call for hosts
 
--- A value that the command uses is too large for its variable.
+-- A value that the command uses is too large for its variable. What it doesn't use isn't looked at.
 pub data TooLarge (f : Form) : Command → Type 0 where
   source-id : (id : SourceId) (a : SourceAction) → 2 ^ widthIn f Arg ≤ id .0 → TooLarge f (OnSource id a)
   source-priority : (id : SourceId) (p : ℕ) → 2 ^ widthIn f Prio ≤ p → TooLarge f (OnSource id (SetSourcePriority p))
@@ -113,20 +113,20 @@ WriteRefusalsExact =
     ((number ≡ 15) ↔ ((¬ NoRun list) × Unwritable narrow (commandsIn list) (length text))) ×
     List·Memᴰ number (0 ∷ 15 ∷ 255 ∷ [])
 
--- What the call leaves in the lent buffer.
+-- What an accepted call has answered, and left in the lent buffer.
 pub record TellsWriting (list text : List ℕ) (call : WriteCall) : Type 0 where
-  pub same-length : length (call .text) ≡ length text
-  -- accepted: the text, as long as the call tells, and then what was there before
-  pub long : numberIn (call .result) ≡ 0 → lengthIn (call .result) ≡ length (written narrow (commandsIn list))
-  pub front : numberIn (call .result) ≡ 0 → take (lengthIn (call .result)) (call .text) ≡ written narrow (commandsIn list)
-  pub rest : numberIn (call .result) ≡ 0 → drop (lengthIn (call .result)) (call .text) ≡ drop (lengthIn (call .result)) text
-  -- refused: the buffer as it was lent, and a length of 0
-  pub refused : numberIn (call .result) ≢ 0 → (call .text ≡ text) × (lengthIn (call .result) ≡ 0)
+  -- the text, as long as the call tells, and then what was there before
+  pub long : lengthIn (call .result) ≡ length (written narrow (commandsIn list))
+  pub front : take (lengthIn (call .result)) (call .text) ≡ written narrow (commandsIn list)
+  pub rest : drop (lengthIn (call .result)) (call .text) ≡ drop (lengthIn (call .result)) text
   -- what was written is read back: the commands of the list, without a fault, command i at the time 2 i
-  pub read-back : numberIn (call .result) ≡ 0 →
-      reading (take (lengthIn (call .result)) (call .text)) ≡ readingWith (commandsIn list) 0 (lengthIn (call .result))
-  pub times : numberIn (call .result) ≡ 0 →
-      timesOf (take (lengthIn (call .result)) (call .text)) ≡ tabulated (length (commandsIn list)) (λ i. 2 * i)
+  pub read-back : reading (take (lengthIn (call .result)) (call .text)) ≡ readingWith (commandsIn list) 0 (lengthIn (call .result))
+  pub times : timesOf (take (lengthIn (call .result)) (call .text)) ≡ tabulated (length (commandsIn list)) (λ i. 2 * i)
 
+-- A refused call leaves the buffer as it was lent, and tells a length of 0; any call keeps the buffer's length.
 abbrev pub WriteTells : Type 0
-WriteTells = (list text : List ℕ) → TellsWriting list text (writeCall list text)
+WriteTells =
+    (list text : List ℕ) →
+    let call = writeCall list text in
+    (numberIn (call .result) ≡ 0 → TellsWriting list text call) ×
+    (numberIn (call .result) ≢ 0 → (call .text ≡ text) × (lengthIn (call .result) ≡ 0)) × (length (call .text) ≡ length text)
