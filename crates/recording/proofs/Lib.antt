@@ -2,3 +2,4 @@
 pub mod Examples
 pub mod CallExamples
 pub mod WrittenExamples
+pub mod Digits
