@@ -14,8 +14,9 @@ use native.Mathlib.Nat.{not-suc-le-zero, div-add-mod, mod-lt, div-lt-self, le-di
 use native.Mathlib.Nat.{mul-add-div, div-eq-of-lt, mul-add-mod-self-left, mod-eq-of-lt, mul-le-mul-right}
 use lib.ListN.{length, length-append, List·getD-append}
 use lib.Dec.{ltb}
-use borrow.Author.Tests.{ltb-true, ltb-false, lt-ltb, le-ltb}
+use borrow.Author.Tests.{ltb-true, ltb-false, le-ltb}
 use Rattle.lists.proofs.Bools.{Flag, on, off, flag}
+use Rattle.recording.proofs.Digits.{digits-bound, below-digits}
 use Rattle.recording.specs.Values.{numeral}
 use Rattle.recording.specs.Writing.{digitsWithin, digits}
 use Rattle.recording.specs.WritingStatements.{Digits, DigitsExact}
@@ -86,25 +87,6 @@ module _ (base : ℕ) (two : 2 ≤ base) where
 
   -- ---- and no other list is
 
-  -- a bound that is enough says nothing more
-  digits-bound : (k k′ x : ℕ) → x ≤ k → x ≤ k′ → digitsWithin k base x ≡ digitsWithin k′ base x
-  digits-bound zero zero x h h′ = refl
-  digits-bound zero (suc k′) x h h′ = rw (lt-ltb x base (omega arith))
-  digits-bound (suc k) zero x h h′ = rw (lt-ltb x base (omega arith))
-  digits-bound (suc k) (suc k′) x h h′ = go (flag (ltb x base)) (digits-bound k k′ (x / base))
-    where
-      go : Flag (ltb x base) → (x / base ≤ k → x / base ≤ k′ → digitsWithin k base (x / base) ≡ digitsWithin k′ base (x / base)) →
-          digitsWithin (suc k) base x ≡ digitsWithin (suc k′) base x
-      go (on e) rest = rw e
-      go (off e) rest =
-          let large : base ≤ x = ltb-false x base e in
-          let less : x / base < x = div-lt-self {n = x} {k = base} (omega arith) (omega arith) in
-          rw e (ap (λ (ds : List ℕ). ds ++ (x % base ∷ [])) (rest (omega arith) (omega arith)))
-
-  below-digits : (k x : ℕ) → x < base → digitsWithin k base x ≡ x ∷ []
-  below-digits zero x h = refl
-  below-digits (suc k) x h = rw (lt-ltb x base h)
-
   -- what a digit behind v makes
   digits-more : (k v d : ℕ) → 0 < v → d < base → base * v + d ≤ k → digitsWithin k base (base * v + d) ≡ digitsWithin v base v ++ (d ∷ [])
   digits-more zero v d h l b = absurd (omega (arith, mul-le-mul-right {m = 2} {n = base} v two))
@@ -115,11 +97,11 @@ module _ (base : ℕ) (two : 2 ≤ base) where
       = mul-add-div {m = base} (omega arith) v d ∙ omega (arith, div-eq-of-lt l) in
       let rest : (base * v + d) % base ≡ d = mul-add-mod-self-left base v d ∙ mod-eq-of-lt l in
       rw (le-ltb (base * v + d) base (omega arith), quotient, rest)
-      (ap (λ (ds : List ℕ). ds ++ (d ∷ [])) (digits-bound k v v (omega arith) (omega arith)))
+      (ap (λ (ds : List ℕ). ds ++ (d ∷ [])) (digits-bound base two k v v (omega arith) (omega arith)))
 
   numeral-digits : (k v : ℕ) (ds : List ℕ) → 0 < v → ((d : ℕ) → List·Memᴰ d ds → d < base) → numeral base v ds ≤ k →
       digitsWithin k base (numeral base v ds) ≡ digitsWithin v base v ++ ds
-  numeral-digits k v [] h l b = digits-bound k v v b (omega arith) ∙ sym (append-nil (digitsWithin v base v))
+  numeral-digits k v [] h l b = digits-bound base two k v v b (omega arith) ∙ sym (append-nil (digitsWithin v base v))
   numeral-digits k v (d ∷ ds) h l b =
       let x : ℕ = base * v + d in
       let some : 2 * v ≤ base * v = mul-le-mul-right {m = 2} {n = base} v two in
@@ -132,14 +114,14 @@ module _ (base : ℕ) (two : 2 ≤ base) where
   digits-only x [] h = absurd (not-suc-le-zero (h .some-digit))
   digits-only x (d ∷ []) h =
       let same : d ≡ x = omega (arith, h .spell) in
-      ap (λ (k : ℕ). k ∷ []) same ∙ sym (below-digits x x (subst (λ (k : ℕ). k < base) same (h .below d (here refl))))
+      ap (λ (k : ℕ). k ∷ []) same ∙ sym (below-digits base two x x (subst (λ (k : ℕ). k < base) same (h .below d (here refl))))
   digits-only x (d ∷ e ∷ ds) h =
       let spelled : numeral base d (e ∷ ds) ≡ x = ap (λ (k : ℕ). numeral base k (e ∷ ds)) (omega arith) ∙ h .spell in
       let some : 0 < d = first-some (decLt 0 d) in
       sym
       (ap (digitsWithin x base) (sym spelled) ∙
       numeral-digits x d (e ∷ ds) some (λ c m. h .below c (there m)) (omega (arith, spelled)) ∙
-      ap (λ (es : List ℕ). es ++ (e ∷ ds)) (below-digits d d (h .below d (here refl))))
+      ap (λ (es : List ℕ). es ++ (e ∷ ds)) (below-digits base two d d (h .below d (here refl))))
     where
       first-some : Dec (0 < d) → 0 < d
       first-some (yes p) = p

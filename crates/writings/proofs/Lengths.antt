@@ -6,7 +6,7 @@ use mathlib.Core.Path.{_≡_, sym, subst}
 use mathlib.Core.List.{List, [], _∷_, _++_, List·Memᴰ, List·Memᴰ·head as here, List·Memᴰ·tail as there, List·Memᴰ·not-nil}
 use mathlib.Core.Bool.{true}
 use native.Mathlib.Omega.{arith}
-use lib.ListN.{length, length-append, length-map}
+use lib.ListN.{length, length-append}
 use Rattle.lists.specs.Rows.{joined}
 use Rattle.lists.proofs.Bools.{and-l, and-r}
 use Rattle.model.specs.declared.Command.{Command}
@@ -19,19 +19,17 @@ use Rattle.recording.specs.declared.Signal.the-variants.{Cmd, Core, Arg, Prio}
 use Rattle.recording.specs.Words.{all}
 use Rattle.recording.specs.Declarations.{Form, forms}
 use Rattle.recording.specs.Stamps.{maxCommands}
-use Rattle.recording.specs.Writing.{digits, digitByte, numeralBytes, codeByte, space, timeLine, vectorLine, strobeLine, coreValue, argValue}
+use Rattle.recording.specs.Writing.{digits, numeralBytes, codeByte, space, timeLine, vectorLine, strobeLine, coreValue, argValue}
 use Rattle.recording.specs.Writing.{valueFor, vectors, commandText, textFrom, definitionText, written, writable}
 use Rattle.recording.specs.WritingStatements.{WrittenBounded}
+use Rattle.recording.proofs.Digits.{numeral-length}
 use Rattle.writings.proofs.Digits.{digits-are}
 use Rattle.writings.proofs.Runs.{Used, used}
 
 -- ---- lines
 
-numeral-long : (base x : ℕ) → length (numeralBytes base x) ≡ length (digits base x)
-numeral-long base x = length-map (digits base x) digitByte
-
 time-long : (t : ℕ) → length (timeLine t) ≡ 2 + length (digits 10 t)
-time-long t = omega (arith, length-append (numeralBytes 10 t) (10 ∷ []), numeral-long 10 t)
+time-long t = omega (arith, length-append (numeralBytes 10 t) (10 ∷ []), numeral-length 10 t)
 
 vector-long : (s : Signal) (x : ℕ) → length (vectorLine s x) ≡ 4 + length (digits 2 x)
 vector-long s x =
@@ -40,7 +38,7 @@ vector-long s x =
       arith,
       length-append (bits ++ (space ∷ codeByte s ∷ [])) (10 ∷ []),
       length-append bits (space ∷ codeByte s ∷ []),
-      numeral-long 2 x,
+      numeral-length 2 x,
     )
 
 -- a time below a million

@@ -13,6 +13,7 @@ use Rattle.model.specs.declared.Command.{Command}
 use Rattle.model.specs.declared.Decoded.{Decoded}
 use Rattle.model.specs.declared.Decoded.the-variants.{Unknown, Known}
 use Rattle.layout.specs.Commands.{commandOf}
+use Rattle.layout.proofs.Commands.{unknown}
 use Rattle.layout.specs.Bytes.{commandSize, orEnd, inFives, oneCommand, commandsIn}
 use Rattle.recording.specs.Stamps.{named}
 use Rattle.recording.specs.Calls.{isRun}
@@ -29,18 +30,7 @@ known-one : (number at p : ℕ) → number < 8 → length (oneCommand (commandOf
 known-one number at p h = same-length (commandOf number at p) ∙ named-one number at p h
 
 unknown-none : (number at p : ℕ) → 7 < number → oneCommand (commandOf number at p) ≡ []
-unfolding commandOf
-unknown-none number at p h =
-    rw (
-      ne-eqb number 0 (λ e. omega arith),
-      ne-eqb number 1 (λ e. omega arith),
-      ne-eqb number 2 (λ e. omega arith),
-      ne-eqb number 3 (λ e. omega arith),
-      ne-eqb number 4 (λ e. omega arith),
-      ne-eqb number 5 (λ e. omega arith),
-      ne-eqb number 6 (λ e. omega arith),
-      ne-eqb number 7 (λ e. omega arith),
-    )
+unknown-none number at p h = ap oneCommand (unknown number at p h)
 
 more-length : {A : Type 0} (xs rest : List A) → length xs ≡ 1 → length (orEnd xs rest) ≡ suc (length rest)
 more-length [] rest e = absurd (omega (arith, e))
