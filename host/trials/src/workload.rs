@@ -1,6 +1,6 @@
 //! The benchmark's commands: a mixed run from a seed, in which every kind is accepted and refused, and a busy one; the states that single
-//! commands of the mixed run meet; and that run as a recording, in the form of document 01's example or mostly made of something else, or as
-//! one that can be written.
+//! commands of the mixed run meet; and that run as a recording, in the form of document 01's example or mostly made of something else, or
+//! as one that can be written.
 
 use std::fmt::Write;
 

@@ -3,7 +3,8 @@
 //! Both writers take a list of commands, 5 bytes each, and a buffer, and answer as the library does: number + 256 length, or 15, or 255.
 //! The list is gone over once for what it holds and for the text's length, and nothing is written before that is known.
 //!
-//! - [`plain`] is how a Rust programmer writes it who wants it fast: from the text's end to its front, digits as they come out of divisions.
+//! - [`plain`] is how a Rust programmer writes it who wants it fast: from the text's end to its front, digits as they come out of
+//!   divisions.
 //! - [`by_tables`] has every line that a variable can have in a table, copies 16 bytes of it whatever its length, and has the next line
 //!   written over what is too much; the times are counted in decimal.
 

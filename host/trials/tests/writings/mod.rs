@@ -49,8 +49,8 @@ fn the_writers_of_the_benchmark_agree_with_the_reference() {
     assert_eq!(first_difference(&ByTables, 4000), None);
 }
 
-/// Each command with each edge of its arguments, runs of 65,534 to 65,536 commands, and lists that hold no run: into a buffer of exactly the
-/// text's length, one byte less, none, and some more.
+/// Each command with each edge of its arguments, runs of 65,534 to 65,536 commands, and lists that hold no run: into a buffer of exactly
+/// the text's length, one byte less, none, and some more.
 #[test]
 fn edges_are_written_as_by_the_reference() {
     fn differs(writer: &impl Writer, case: &Case) -> Option<String> {
