@@ -2,7 +2,7 @@
 //! that says why, and a state can be read.
 //!
 //! - [`Controller`] owns a state: make it, put commands to it, read it.
-//! - [`read`] gives the commands of a recording, [`replay`] puts them to a fresh controller, and [`write`] makes a recording of a run of
+//! - [`read`] gives the commands of a recording, [`replay`] puts them to a fresh controller, and [`write()`] makes a recording of a run of
 //!   commands; [`recording`] says more.
 //! - [`Routines`] simulate the interrupt routines' entry and exit on all cores; [`Handovers`] count which core took over from which.
 //! - [`highest_in`], [`ranges_in`] and [`claim_in_place`] work on records that a host keeps in tables of its own.

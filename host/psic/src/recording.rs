@@ -2,7 +2,7 @@
 //!
 //! A recording is Value Change Dump text (IEEE 1364), cut down as document 01's last section says. [`read`] gives its commands, each with
 //! the time of the stamp at whose end it was taken; [`replay`] puts them to a fresh controller and goes on after a refused one. The first
-//! fault in reading order ends either, and the commands before it stand, also one taken at its word. [`write`] makes such a text of a run
+//! fault in reading order ends either, and the commands before it stand, also one taken at its word. [`write()`] makes such a text of a run
 //! of commands, and reading it gives the same commands in the same order.
 //!
 //! Document 01's own text is trigger 4 alone:

@@ -1,7 +1,7 @@
 //! A run of commands, written as the bus monitor's text: document 02's request 6/14 and the last
 //! paragraph of document 01, sentence by sentence.
 //!
-//! - [`write`] gives the text of a run, and [`write_into`] puts it into a lent buffer.
+//! - [`write()`] gives the text of a run, and [`write_into`] puts it into a lent buffer.
 //! - [`lists`] are runs as a host hands them over, damaged ones too.
 //! - [`compare`] holds another writer against this one.
 
