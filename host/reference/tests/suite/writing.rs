@@ -80,7 +80,7 @@ fn what_is_written_is_read_back() {
 }
 
 #[test]
-fn values_are_refused_exactly_from_their_variables_end_on() {
+fn the_reference_refuses_values_from_their_variables_end_on() {
     let (id, core) = (SourceId, CoreNumber);
     for (good, bad, variable) in [
         (trigger(255), trigger(256), Variable::Arg),
@@ -114,7 +114,7 @@ fn values_are_refused_exactly_from_their_variables_end_on() {
 }
 
 #[test]
-fn a_run_has_at_most_65_535_commands() {
+fn the_reference_writes_at_most_65_535_commands() {
     let run = vec![trigger(1); MAX_COMMANDS + 1];
     assert!(write(&run[1..]).is_ok());
     assert_eq!(write(&run), Err(Unwritable::TooManyCommands));
