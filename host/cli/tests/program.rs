@@ -128,6 +128,9 @@ fn bad_input_has_status_1() {
     let (status, _, err) = answered(&[&SIZES[..], &["tests"]].concat(), b"");
     assert_eq!(status, 1);
     assert!(err.starts_with("psic: tests, line 1: "));
+    let (status, out, err) = answered(&["record", "no such file"], b"");
+    assert_eq!((status, out.as_str()), (1, ""));
+    assert!(err.starts_with("psic: no such file can't be opened: "));
 }
 
 #[test]
