@@ -38,8 +38,8 @@
 #include <stdint.h>
 
 /* The version of this header: ten thousand times the major number, a hundred times the minor one, and the patch. */
-#define PSIC_VERSION 30000u
-#define PSIC_VERSION_TEXT "3.0.0"
+#define PSIC_VERSION 30100u
+#define PSIC_VERSION_TEXT "3.1.0"
 
 /* The largest sizes: "n sources, 1 to 128", "m cores, 1 to 32". */
 #define PSIC_MAX_SOURCES 128u
