@@ -11,6 +11,7 @@ fn main() {
         "psic_claim_in_place",
         "psic_read",
         "psic_replay",
+        "psic_write",
         "psic_make_routines",
         "psic_enter",
         "psic_exit",

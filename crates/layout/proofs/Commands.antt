@@ -1,13 +1,14 @@
 -- A list of commands there and back, and an answer in one number. Assumes nothing.
-use Prim.Native.Nat.{_<_}
+use Prim.Native.Nat.{ℕ, _<_}
 use mathlib.Core.Path.{_≡_, refl}
 use mathlib.Core.List.{List, [], _∷_, List·Memᴰ, List·Memᴰ·head, List·Memᴰ·tail}
 use native.Mathlib.Omega.{arith}
+use borrow.Author.Tests.{ne-eqb}
 use Rattle.model.specs.declared.Command.{Command}
 use Rattle.model.specs.declared.Command.the-variants.{OnSource, OnCore}
 use Rattle.model.specs.declared.SourceAction.the-variants.{SetSourcePriority, Mask, Unmask, Trigger, Redeliver, Complete}
 use Rattle.model.specs.declared.CoreAction.the-variants.{SetCorePriority, Claim}
-use Rattle.model.specs.declared.Decoded.the-variants.{Known}
+use Rattle.model.specs.declared.Decoded.the-variants.{Unknown, Known}
 use Rattle.layout.specs.Commands.{commandOf, numberOf, targetOf, levelOf}
 use Rattle.lists.specs.Rows.{joined}
 use Rattle.layout.specs.Bytes.{commandSize, commandBytes, inFives, commandsIn}
@@ -16,7 +17,7 @@ use Rattle.layout.proofs.Records.{word-back}
 use Rattle.lists.proofs.Rows.{length-joined}
 use Rattle.layout.proofs.Octets.{Octets, none, next, are-bytes, octets-append, octets-word}
 
-number-small : (c : Command) → numberOf c < 8
+pub number-small : (c : Command) → numberOf c < 8
 number-small (OnSource id (SetSourcePriority p)) = omega arith
 number-small (OnSource id Mask) = omega arith
 number-small (OnSource id Unmask) = omega arith
@@ -37,6 +38,21 @@ commandOf-numbers (OnSource id Trigger) = refl
 commandOf-numbers (OnCore k Claim) = refl
 commandOf-numbers (OnSource id Redeliver) = refl
 commandOf-numbers (OnSource id Complete) = refl
+
+-- a number above 7 names none
+pub unknown : (number at p : ℕ) → 7 < number → commandOf number at p ≡ Unknown
+unfolding commandOf
+unknown number at p h =
+    rw (
+      ne-eqb number 0 (λ e. omega arith),
+      ne-eqb number 1 (λ e. omega arith),
+      ne-eqb number 2 (λ e. omega arith),
+      ne-eqb number 3 (λ e. omega arith),
+      ne-eqb number 4 (λ e. omega arith),
+      ne-eqb number 5 (λ e. omega arith),
+      ne-eqb number 6 (λ e. omega arith),
+      ne-eqb number 7 (λ e. omega arith),
+    )
 
 read-back : (cs : List Command) → commandsIn (joined commandBytes cs) ≡ cs
 unfolding joined inFives

@@ -3,6 +3,7 @@
 --   read-kept       the element written reads as the one before it: what is read stays, past the list's end too
 --   read-written    a choice by whether the place written is read, between what the two elements read
 --   sets-append     two runs of stores, one right behind the other, are one run
+--   sets-before     the same where the one behind is stored first
 --   take-sets       a run of stores right behind a front makes the front longer
 use Prim.Native.Nat.{ℕ, suc, _+_, _<_, _≤_}
 use mathlib.Core.Path.{_≡_, refl, ap, _∙_}
@@ -11,7 +12,7 @@ use mathlib.Core.List.{List, [], _∷_, _++_}
 use mathlib.Core.Bool.{cond}
 use lib.Dec.{eqb}
 use lib.ListN.{length, getD, set, take, drop, length-append, length-take}
-use lib.Seq.{set-out, getD-set-same, getD-set-other, sets, sets-eq, take-at}
+use lib.Seq.{set-out, set-comm, getD-set-same, getD-set-other, sets, sets-eq, take-at}
 use native.Mathlib.Omega.{arith}
 use native.Mathlib.Decide.{decLt, ℕ-discrete}
 use borrow.Author.Tests.{eq-eqb, ne-eqb}
@@ -48,6 +49,20 @@ module _ {A : Type 0} where
       (b : List A) (i j : ℕ) (xs ys : List A) → j ≡ i + length xs → sets (sets b i xs) j ys ≡ sets b i (xs ++ ys)
   sets-append b i j [] ys e = ap (λ (k : ℕ). sets b k ys) (omega arith)
   sets-append b i j (x ∷ xs) ys e = sets-append (set b i x) (suc i) j xs ys (omega arith)
+
+  set-past : (b xs : List A) (i j : ℕ) (y : A) → i + length xs ≤ j → sets (set b j y) i xs ≡ set (sets b i xs) j y
+  set-past b [] i j y h = refl
+  set-past b (x ∷ xs) i j y h =
+      ap (λ (l : List A). sets l (suc i) xs) (set-comm b j i y x (λ e. omega arith)) ∙ set-past (set b i x) xs (suc i) j y (omega arith)
+
+  sets-past : (b xs ys : List A) (i j : ℕ) → i + length xs ≤ j → sets (sets b j ys) i xs ≡ sets (sets b i xs) j ys
+  sets-past b xs [] i j h = refl
+  sets-past b xs (y ∷ ys) i j h =
+      sets-past (set b j y) xs ys i (suc j) (omega arith) ∙ ap (λ (l : List A). sets l (suc j) ys) (set-past b xs i j y h)
+
+  pub sets-before :
+      (b : List A) (i j : ℕ) (xs ys : List A) → j ≡ i + length xs → sets (sets b j ys) i xs ≡ sets b i (xs ++ ys)
+  sets-before b i j xs ys e = sets-past b xs ys i j (omega arith) ∙ sets-append b i j xs ys e
 
   pub take-sets : (l vs : List A) (i : ℕ) → i + length vs ≤ length l → take (i + length vs) (sets l i vs) ≡ take i l ++ vs
   take-sets l vs i h =

@@ -1,19 +1,20 @@
--- In every reading cmd holds a number from 0 to 7: it has three bits, and no longer vector is taken. Assumes nothing.
---   Fits c v         what a variable cmd and a vector under way keep to
+-- In every reading a variable holds a number of no more bits than it has: no longer vector is taken. So cmd holds 0 to 7. Assumes
+-- nothing.
+--   Fits vs v        what the variables and a vector under way keep to
 --   Fit r            they are those of a reader
 --   readWord-fit     a word keeps it
 --   named-one        so that the number of a strobe names a command
 use Prim.Native.Nat.{ℕ, zero, suc, _*_, _^_, _<_, _≤_, min}
-use mathlib.Core.Path.{_≡_, refl}
+use mathlib.Core.Path.{_≡_, refl, subst}
 use mathlib.Core.Option.{Option, none, some}
-use mathlib.Core.List.{List, map, tail}
+use mathlib.Core.List.{List, [], _∷_, map, tail}
 use mathlib.Core.Bool.{Bool, true, false, not, _&&_, _||_, cond}
 use native.Mathlib.Omega.{arith}
-use native.Mathlib.Nat.{pow-le-pow-right, le-trans}
+use native.Mathlib.Nat.{not-suc-le-zero, pow-le-pow-right, le-trans}
 use native.Mathlib.Decide.{decLe}
-use lib.ListN.{length, length-map}
+use lib.ListN.{length, getD, length-map}
 use lib.Dec.{leb, eqb}
-use borrow.Author.Tests.{leb-true, eqb-true}
+use borrow.Author.Tests.{leb-true, ltb-true, eqb-true}
 use Rattle.lists.proofs.Bools.{and-l, and-r}
 use Rattle.layout.specs.Commands.{commandOf}
 use Rattle.recording.specs.declared.Place.{Place}
@@ -22,29 +23,49 @@ use Rattle.recording.specs.declared.Place.the-variants.{SkipBody, BodyCode, Blo
 use Rattle.recording.specs.declared.Signal.{Signal}
 use Rattle.recording.specs.declared.Signal.the-variants.{Stb, Cmd, Core, Arg, Prio}
 use Rattle.recording.specs.declared.Variable.{Variable}
+use Rattle.recording.specs.declared.Variables.{Variables}
 use Rattle.recording.specs.declared.Vector.{Vector}
 use Rattle.recording.specs.declared.Reader.{Reader}
 use Rattle.recording.specs.declared.Read.{Read}
 use Rattle.recording.specs.Words.{isText, Word, all}
-use Rattle.recording.specs.Values.{Bit, isDefinite, isDecimal, isCode, bitOf, bitNumber, numeral, value, unknown, valueOf, vectorOf}
-use Rattle.recording.specs.Records.{start, variable, at, withUp, withTaken, withValue, declaring, refused, only, readWith}
-use Rattle.recording.specs.Declarations.{narrow, fits, declared, signalOf, allDeclared, declares}
+use Rattle.recording.specs.Values.{Bit, b0, b1, bx, bz, isDefinite, isDecimal, isCode, codeOf, bitOf, bitNumber, numeral, value, unknown}
+use Rattle.recording.specs.Values.{valueOf, vectorOf}
+use Rattle.recording.specs.Records.{start, variableWith, variableOf, withVariableOf, variable, at, withUp, withTaken, withValue, declaring}
+use Rattle.recording.specs.Records.{refused, only, readWith}
+use Rattle.recording.specs.Declarations.{narrow, widthIn, fits, declared, signalOf, allDeclared, hasCode, declares}
 use Rattle.recording.specs.Stamps.{maxCommands, level, rises, isHigh, isReadable, strobeOf, named, endStamp, endOpenStamp}
 use Rattle.recording.specs.Reading.{isGood, outOfPlace, isSkipped, readDefinition, readWidth, readCode, readName, isVector, isScalar}
 use Rattle.recording.specs.Reading.{readChange, vectorSignal, readVectorCode, startsTime, isTime, timeOf, isLater, openStamp, andThen}
 use Rattle.recording.specs.Reading.{readTime, isDump, readBody, readBlock, readAt, readWord}
+use Rattle.readings.proofs.Lists.{first-out, read-same, Compared, same, other, compare}
 use Rattle.readings.proofs.Extension.{numeral-below}
 
-pub record Fits (c : Variable) (v : Vector) : Type 0 where
-  pub below : c .value .number < 8
-  pub narrow-width : c .width ≤ 3
+pub record Fits (vs : Variables) (v : Vector) : Type 0 where
+  pub below : (s : Signal) → (variableOf vs s) .value .number < 2 ^ widthIn narrow s
+  -- of a variable that is declared
+  pub width : (s : Signal) → 0 < (variableOf vs s) .code → (variableOf vs s) .width ≡ widthIn narrow s
   pub in-vector : v .value .number < 2 ^ v .length
 
 abbrev pub Fit : Reader → Type 0
-Fit r = Fits (r .variables .cmd) (r .pending .vector)
+Fit r = Fits (r .variables) (r .pending .vector)
 
 pub start-fit : Fit start
-start-fit = record { below = omega arith; narrow-width = omega arith; in-vector = omega arith }
+start-fit = record { below = zeros; width = undeclared; in-vector = omega arith }
+  where
+    zeros : (s : Signal) → (variableOf (start .variables) s) .value .number < 2 ^ widthIn narrow s
+    zeros Stb = omega arith
+    zeros Cmd = omega arith
+    zeros Core = omega arith
+    zeros Arg = omega arith
+    zeros Prio = omega arith
+
+    undeclared : (s : Signal) → 0 < (variableOf (start .variables) s) .code →
+        (variableOf (start .variables) s) .width ≡ widthIn narrow s
+    undeclared Stb h = absurd (not-suc-le-zero h)
+    undeclared Cmd h = absurd (not-suc-le-zero h)
+    undeclared Core h = absurd (not-suc-le-zero h)
+    undeclared Arg h = absurd (not-suc-le-zero h)
+    undeclared Prio h = absurd (not-suc-le-zero h)
 
 either : (b : Bool) (x y : Reader) → Fit x → Fit y → Fit (cond b x y)
 either true x y p q = p
@@ -79,23 +100,51 @@ vector-fits w = go (all isDefinite (map bitOf w))
     go true = held-below (numeral 2 0 (map bitNumber (map bitOf w))) (length w) (rw (length-map w bitOf) at (numeral-below 0 (map bitOf w)))
     go false = held-below 0 (length w) (rw (length-map w bitOf) at (positive (map bitOf w)))
 
+scalar-fits : (b : Bit) → (valueOf (b ∷ [])) .number < 2
+unfolding valueOf
+scalar-fits b0 = omega arith
+scalar-fits b1 = omega arith
+scalar-fits bx = omega arith
+scalar-fits bz = omega arith
+
+-- ---- one variable written
+
+module _ (vs : Variables) (v : Vector) (h : Fits vs v) (s : Signal) (x : Variable) where
+  written-fit : x .value .number < 2 ^ widthIn narrow s → (0 < x .code → x .width ≡ widthIn narrow s) → Fits (withVariableOf vs s x) v
+  written-fit number width =
+      record { below = λ s′. below-at s′ (compare s s′); width = λ s′. width-at s′ (compare s s′); in-vector = h .in-vector }
+    where
+      below-at : (s′ : Signal) → Compared s s′ → (variableOf (withVariableOf vs s x) s′) .value .number < 2 ^ widthIn narrow s′
+      below-at s′ (same e) =
+          subst (λ (k : Signal). (variableOf (withVariableOf vs s x) k) .value .number < 2 ^ widthIn narrow k) e
+          (rw (read-same vs s x) number)
+      below-at s′ (other o) = rw (o vs x) (h .below s′)
+
+      width-at : (s′ : Signal) → Compared s s′ → 0 < (variableOf (withVariableOf vs s x) s′) .code →
+          (variableOf (withVariableOf vs s x) s′) .width ≡ widthIn narrow s′
+      width-at s′ (same e) =
+          subst
+          (λ (k : Signal).
+          0 < (variableOf (withVariableOf vs s x) k) .code → (variableOf (withVariableOf vs s x) k) .width ≡ widthIn narrow k) e
+          (rw (read-same vs s x) width)
+      width-at s′ (other o) = rw (o vs x) (h .width s′)
+
 -- ---- a word
 
 module _ (r : Reader) (w : Word) (h : Fit r) where
-  -- a declaration of cmd has three bits
-  declares-three : declares r Cmd ≡ true → r .pending .width ≡ 3
+  -- a declaration has the width of its variable
+  declares-width : (s : Signal) → declares r s ≡ true → r .pending .width ≡ widthIn narrow s
   unfolding declares
-  declares-three e =
-      let all-but = and-l (not (declared r Cmd) && (fits r Cmd (r .pending .width) narrow || false)) _ e in
-      let fit = and-r (not (declared r Cmd)) (fits r Cmd (r .pending .width) narrow || false) all-but in
-      eqb-true (r .pending .width) 3 (and-l (eqb (r .pending .width) 3) _ (or-left (fits r Cmd (r .pending .width) narrow) fit))
+  declares-width s e =
+      let all-but = and-l (not (declared r s) && (fits r s (r .pending .width) narrow || false)) _ e in
+      let fit = and-r (not (declared r s)) (fits r s (r .pending .width) narrow || false) all-but in
+      eqb-true (r .pending .width) (widthIn narrow s)
+      (and-l (eqb (r .pending .width) (widthIn narrow s)) _ (or-left (fits r s (r .pending .width) narrow) fit))
 
   declaring-fit : (s : Signal) → declares r s ≡ true → Fit (declaring s r)
-  declaring-fit Stb e = h
-  declaring-fit Cmd e = record { below = h .below; narrow-width = omega (arith, declares-three e); in-vector = h .in-vector }
-  declaring-fit Core e = h
-  declaring-fit Arg e = h
-  declaring-fit Prio e = h
+  declaring-fit s e =
+      written-fit (r .variables) (r .pending .vector) h s
+      (variableWith (r .pending .code) (r .pending .width) ((variable r s) .value)) (h .below s) (λ c. declares-width s e)
 
   name-fit : (o : Option Signal) → Fit (readName o r w)
   unfolding readName
@@ -110,28 +159,35 @@ module _ (r : Reader) (w : Word) (h : Fit r) where
   unfolding readChange
   change-fit p q =
       either (isVector (w .bytes)) _ _
-      (record { below = h .below; narrow-width = h .narrow-width; in-vector = vector-fits (tail (w .bytes)) })
-      (either (isScalar r (w .bytes)) _ _ h h)
+      (record { below = h .below; width = h .width; in-vector = vector-fits (tail (w .bytes)) })
+      (either (isScalar r (w .bytes)) _ _
+      (written-fit (r .variables) (r .pending .vector) h Stb
+      (variableWith (r .variables .stb .code) (r .variables .stb .width) (valueOf (bitOf (getD (w .bytes) 0 0) ∷ [])))
+      (scalar-fits (bitOf (getD (w .bytes) 0 0))) (h .width Stb)) h)
 
-  -- what fits a vector of at most three bits
-  given-fit : (s : Signal) → r .pending .vector .length ≤ (variable r s) .width → Fit (withValue s (r .pending .vector .value) r)
-  given-fit Stb l = h
-  given-fit Cmd l =
-      let top : 2 ^ r .pending .vector .length ≤ 2 ^ 3
-      = pow-le-pow-right {n = 2} (omega arith) {i = r .pending .vector .length} {j = 3} (omega (arith, h .narrow-width)) in
-      record { below = omega (arith, h .in-vector); narrow-width = h .narrow-width; in-vector = h .in-vector }
-  given-fit Core l = h
-  given-fit Arg l = h
-  given-fit Prio l = h
+  -- what fits a vector that is no longer than its variable
+  given-fit : (s : Signal) → 0 < (variable r s) .code → r .pending .vector .length ≤ (variable r s) .width →
+      Fit (withValue s (r .pending .vector .value) r)
+  given-fit s d l =
+      let length = r .pending .vector .length in
+      let top : 2 ^ length ≤ 2 ^ widthIn narrow s
+      = pow-le-pow-right {n = 2} (omega arith) {i = length} {j = widthIn narrow s} (omega (arith, h .width s d)) in
+      written-fit (r .variables) (r .pending .vector) h s
+      (variableWith ((variable r s) .code) ((variable r s) .width) (r .pending .vector .value)) (omega (arith, h .in-vector)) (h .width s)
 
-  code-fit : (p : Place) (o : Option Signal) → Fit (readVectorCode p o r w)
+  code-fit : (p : Place) (o : Option Signal) → vectorSignal r (w .bytes) ≡ o → Fit (readVectorCode p o r w)
   unfolding readVectorCode
-  code-fit p none = h
-  code-fit p (some s) = go (leb (r .pending .vector .length) ((variable r s) .width)) refl
+  code-fit p none f = h
+  code-fit p (some s) f = go (leb (r .pending .vector .length) ((variable r s) .width)) refl
     where
+      has : hasCode r (w .bytes) s ≡ true
+      has = (first-out (hasCode r (w .bytes)) (Cmd ∷ Core ∷ Arg ∷ Prio ∷ []) s f) .1
+
       go : (b : Bool) → leb (r .pending .vector .length) ((variable r s) .width) ≡ b →
           Fit (cond b (at p (withValue s (r .pending .vector .value) r)) (outOfPlace w r))
-      go true e = given-fit s (leb-true _ _ e)
+      go true e =
+          given-fit s (ltb-true 0 ((variable r s) .code) (and-l (declared r s) (eqb ((variable r s) .code) (codeOf (w .bytes))) has))
+          (leb-true _ _ e)
       go false e = h
 
   time-fit : Fit (openStamp r w)
@@ -196,9 +252,9 @@ module _ (r : Reader) (w : Word) (h : Fit r) where
   readAt-fit DefinitionsEnd = either (isText "$end" (w .bytes)) _ _ h h
   readAt-fit Body = body-fit (startsTime (w .bytes)) (isText "$comment" (w .bytes)) (isDump (w .bytes))
   readAt-fit SkipBody = either (isText "$end" (w .bytes)) _ _ h h
-  readAt-fit BodyCode = code-fit r w h Body (vectorSignal r (w .bytes))
+  readAt-fit BodyCode = code-fit r w h Body (vectorSignal r (w .bytes)) refl
   readAt-fit Block = either (isText "$end" (w .bytes)) _ _ h (change-fit r w h Block BlockCode)
-  readAt-fit BlockCode = code-fit r w h Block (vectorSignal r (w .bytes))
+  readAt-fit BlockCode = code-fit r w h Block (vectorSignal r (w .bytes)) refl
 
   pub readWord-fit : Fit ((readWord r w) .reader)
   unfolding readWord

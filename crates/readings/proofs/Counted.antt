@@ -8,6 +8,7 @@ use lib.ListN.{length, length-append}
 use lib.Dec.{leb}
 use borrow.Author.Tests.{leb-false}
 use Rattle.lists.proofs.Bools.{Flag, on, off, flag}
+use Rattle.recording.specs.declared.Signal.the-variants.{Cmd}
 use Rattle.recording.specs.declared.Reader.{Reader}
 use Rattle.recording.specs.declared.Read.{Read}
 use Rattle.recording.specs.Words.{Word, words}
@@ -36,7 +37,7 @@ unfolding commandsOf strobeOf
 strobe-counts r h e =
     let s = strobeOf r in
     record {
-      given = omega (arith, named-one (s .number) (s .target) (s .level) (h .below));
+      given = omega (arith, named-one (s .number) (s .target) (s .level) (h .below Cmd));
       bounded = λ b. omega (arith, leb-false maxCommands (r .taken) e);
     }
 

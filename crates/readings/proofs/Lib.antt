@@ -6,7 +6,7 @@
 --   Faults          which fault and which command a word shows
 --   Final           what follows a fault changes nothing; where a fault is shown
 --   Opening         which words open a stamp, and which leave it alone
---   Commanded       cmd holds a number from 0 to 7
+--   Commanded       each variable holds a number that it has bits for, so cmd one from 0 to 7
 --   Counted         at most 65,535 commands, and one for each strobe
 --   Limits          no more commands than bytes
 --   Rising          the times of the commands rise

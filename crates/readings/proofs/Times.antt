@@ -1,4 +1,5 @@
 -- The times of the commands are those of the stamps at whose ends they are taken, and no other list is (`TimesExact`). Assumes nothing.
+--   times-joined   the times of words joined
 --   taken-time     a command's time is that of the stamp that was open where it is taken
 --   find-taken     each command is taken somewhere
 use Prim.Native.Nat.{ℕ, suc, _+_, _<_, _≤_}
@@ -28,7 +29,7 @@ use Rattle.readings.proofs.LastTimes.{after, count, next-count, behind-
 
 -- ---- where a command is taken
 
-times-joined : (r : Reader) (xs ys : List Word) →
+pub times-joined : (r : Reader) (xs ys : List Word) →
     timesFrom r (xs ++ ys) ≡ timesFrom r xs ++ timesFrom ((readWords (progress r []) xs) .reader) ys
 unfolding timesFrom readWords advance
 times-joined r [] ys = refl

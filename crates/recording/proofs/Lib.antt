@@ -1,3 +1,5 @@
 -- What is proved of a recording's definitions.
 pub mod Examples
 pub mod CallExamples
+pub mod WrittenExamples
+pub mod Digits

@@ -1,10 +1,12 @@
 -- What the calls for hosts answer and write. Definitions only. Assumes nothing.
--- Source: request 1/14. How many commands a text holds isn't known before it is read, so that room is asked for as many as there can be.
+-- Source: requests 1/14 and 6/14. How many commands a text holds isn't known before it is read, so that room is asked for as many as there can be.
 --   room t                         the commands that there is to be room for
 --   readCall t commands times      the commands of a reading, five bytes each, and their times, in the front of two lent buffers
 --   replayCall n m t b answers     the state after a replay in the lent bytes, and its answers, five bytes each, in the front of a buffer
--- A buffer that doesn't fit is answered by 255, and every buffer stays as it was. Sizes out of range come next.
-use Prim.Native.Nat.{ℕ, _*_, min}
+--   writeCall list text            the text of a run, commands of five bytes each, in the front of a lent buffer
+-- A buffer that doesn't fit is answered by 255, and every buffer stays as it was. Sizes out of range come next. A text that doesn't fit its
+-- buffer is 15.
+use Prim.Native.Nat.{ℕ, _+_, _*_, _/_, min}
 use mathlib.Core.Path.{_≡_}
 use mathlib.Core.List.{List}
 use mathlib.Core.Bool.{Bool, _&&_, cond}
@@ -13,11 +15,15 @@ use lib.Seq.{sets}
 use lib.Dec.{leb, eqb}
 use Rattle.lists.specs.Rows.{joined}
 use Rattle.model.specs.WellFormed.{sizesInRange}
-use Rattle.layout.specs.Bytes.{stateSize, stateBytes, commandSize, commandBytes, answerSize, answerBytes, unreadable}
+use Rattle.model.specs.declared.Command.{Command}
+use Rattle.layout.specs.Bytes.{stateSize, stateBytes, commandSize, commandBytes, commandsIn, answerSize, answerBytes, unreadable}
 use Rattle.recording.specs.declared.Report.{Report}
 use Rattle.recording.specs.Stamps.{maxCommands}
 use Rattle.recording.specs.Reading.{Reading, reading, timesOf}
+use Rattle.recording.specs.Words.{all}
+use Rattle.recording.specs.Declarations.{narrow}
 use Rattle.recording.specs.Replay.{Replay, replayed}
+use Rattle.recording.specs.Writing.{written, writable}
 
 abbrev pub reportWith : ℕ → ℕ → ℕ → Report
 reportWith number count offset = record { number = number; count = count; offset = offset }
@@ -81,3 +87,42 @@ replayCall n m t b answers =
 
 abbrev pub DoesReplay : Report → List ℕ → List ℕ → ReplayCall → Type 0
 DoesReplay r b answers call = (r ≡ call .report) × (b ≡ call .bytes) × (answers ≡ call .answers)
+
+-- ---- writing
+
+-- Over 65,535 commands, a used value too large for its variable, or a text longer than the lent buffer.
+abbrev pub notWritable : ℕ
+notWritable = 15
+
+pub record WriteCall : Type 0 where
+  pub result : ℕ
+  pub text : List ℕ
+
+abbrev pub writeCallOf : ℕ → List ℕ → WriteCall
+writeCallOf result text = record { result = result; text = text }
+
+-- A number and a length as one number; `numberIn` is the first of its parts.
+abbrev pub withLength : ℕ → ℕ → ℕ
+withLength number length = number + 256 * length
+
+abbrev pub lengthIn : ℕ → ℕ
+lengthIn x = x / 256
+
+-- The bytes are whole commands, each of a number that names one.
+abbrev pub isRun : List ℕ → Bool
+isRun list = eqb (commandSize * length (commandsIn list)) (length list)
+
+abbrev pub canWrite : List Command → List ℕ → Bool
+canWrite cs text = leb (length cs) maxCommands && all (writable narrow) cs && leb (length (written narrow cs)) (length text)
+
+abbrev pub writtenInto : List Command → List ℕ → WriteCall
+writtenInto cs text = writeCallOf (withLength 0 (length (written narrow cs))) (sets text 0 (written narrow cs))
+
+unfoldable pub writeCall : List ℕ → List ℕ → WriteCall
+writeCall list text =
+    cond (isRun list)
+    (cond (canWrite (commandsIn list) text) (writtenInto (commandsIn list) text) (writeCallOf notWritable text))
+    (writeCallOf unreadable text)
+
+abbrev pub DoesWrite : ℕ → List ℕ → WriteCall → Type 0
+DoesWrite r text call = (r ≡ call .result) × (text ≡ call .text)

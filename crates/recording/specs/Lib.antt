@@ -6,12 +6,15 @@
 --   Stamps        the end of a stamp: the command that is taken, faults 13 and 19
 --   Reading       what each word does at its place, the end of the text, and the whole reading
 --   Replay        the replay from a fresh controller
+--   Writing       the text that is written of a run of commands
 --   Calls         what the calls for hosts answer and write
 --   Faults        when each fault is shown, number by number, and their order
 --   Grammar       the grammar as derivations, beside the reading
 --   Texts         worked texts, with what each of them says
 --   CallTexts     worked texts of the times, of the replay and of the calls
---   Statements    what is claimed of all this, as propositions; their proofs are in the crates above this one
+--   WrittenTexts  worked texts as they are written, and of the call that writes them
+--   Statements    what is claimed of readings and replays, as propositions; their proofs are in the crates above this one
+--   WritingStatements    what is claimed of written texts
 pub mod Words
 pub mod Values
 pub mod Records
@@ -19,9 +22,12 @@ pub mod Declarations
 pub mod Stamps
 pub mod Reading
 pub mod Replay
+pub mod Writing
 pub mod Calls
 pub mod Faults
 pub mod Grammar
 pub mod Texts
 pub mod CallTexts
+pub mod WrittenTexts
 pub mod Statements
+pub mod WritingStatements

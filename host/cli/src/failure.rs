@@ -10,6 +10,8 @@ pub enum Failure {
     Usage(String),
     /// Status 1: what was read can't be taken.
     Input(String),
+    /// Status 1: a file can't be written.
+    File(String),
     /// Status 1: standard output can't be written.
     Output(io::Error),
 }
@@ -29,7 +31,7 @@ impl Failure {
     pub fn status(&self) -> u8 {
         match self {
             Failure::Usage(_) => 2,
-            Failure::Input(_) | Failure::Output(_) => 1,
+            Failure::Input(_) | Failure::File(_) | Failure::Output(_) => 1,
         }
     }
 }
@@ -38,7 +40,7 @@ impl fmt::Display for Failure {
     fn fmt(&self, f: &mut fmt::Formatter<'_>) -> fmt::Result {
         match self {
             Failure::Usage(why) => writeln!(f, "psic: {why}; 'psic --help' says what there is"),
-            Failure::Input(why) => writeln!(f, "psic: {why}"),
+            Failure::Input(why) | Failure::File(why) => writeln!(f, "psic: {why}"),
             Failure::Output(error) => writeln!(f, "psic: the output can't be written: {error}"),
         }
     }

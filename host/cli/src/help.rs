@@ -9,7 +9,8 @@ pub const HELP: &str = "\
 psic: a proved model of the PSIC interrupt controller
 
 usage: psic run --sources N --cores M [FILE]
-       psic replay FILE --sources N --cores M
+       psic replay FILE --sources N --cores M [--write RECORDING]
+       psic record [FILE] [--write RECORDING]
        psic routines --sources N --cores M [FILE]
        psic refusals
        psic --help | --version
@@ -44,6 +45,14 @@ psic replay
         one: how many commands there were, how many were refused and by which number, the cycles in all and at most.
         A fault goes to standard error: its line, column and word, and what was expected there.
 
+    With --write the replayed run, refused commands too, is also written to a file as 'psic record' does.
+
+psic record
+    takes commands as 'psic run' does and puts them to no controller, but writes them as a recording, Value Change Dump
+    text, to standard output or to a file: one command to two stamps, counted from 0. 'psic replay' reads it, and gives
+    the same commands in the same order; so do viewers of such text. A line that is no command, an id above 255, a core
+    above 31, a priority above 511, or a command after the 65535th is told with its line, and nothing is written.
+
 psic routines
     simulates the interrupt routines' entry and exit code on all cores, from a fresh controller, and takes calls as
     'psic run' takes commands. A line is a call: set source, mask, unmask or trigger as above, or
@@ -60,8 +69,8 @@ psic routines
 psic refusals
     prints the numbers for no in words, of commands and of recordings.
 
-Exit status: 0; 1 if a file or a line can't be read, a size is out of range, a recording has a fault, or the output
-can't be written; 2 for wrong usage. A refused command is no failure.
+Exit status: 0; 1 if a file or a line can't be read, a size is out of range, a recording has a fault or can't be
+written, or the output can't be written; 2 for wrong usage. A refused command is no failure.
 
 Example: printf 'unmask 1\\ntrigger 1\\nclaim on core 0\\n' | psic run --sources 2 --cores 4
 ";

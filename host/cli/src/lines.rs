@@ -2,6 +2,7 @@
 
 use std::fmt::Display;
 use std::io::{self, BufRead, BufWriter, IsTerminal, StdoutLock, Write};
+use std::marker::PhantomData;
 use std::str::FromStr;
 
 use crate::failure::Failure;
@@ -24,17 +25,10 @@ pub fn answer_each<T>(
 where
     T: FromStr<Err: Display>,
 {
-    let mut reader = input.open()?;
     let at_once = out.get_ref().is_terminal();
-    for number in 1u64.. {
-        let taken = next(&mut reader).map_err(|why| {
-            let name = input.name();
-            Failure::input(format!("{name}, line {number}: {why}"))
-        });
+    for taken in Lines::of(input)? {
         match taken {
-            Ok(Line::Asks(asked)) => answer(asked, out)?,
-            Ok(Line::Empty) => {}
-            Ok(Line::End) => break,
+            Ok((_, asked)) => answer(asked, out)?,
             Err(failure) => {
                 out.flush()?;
                 return Err(failure);
@@ -45,6 +39,50 @@ where
         }
     }
     Ok(out.flush()?)
+}
+
+/// The commands or calls of an input, each with the number of its line, counted from 1. A line that is none is a failure that names it.
+pub struct Lines<T> {
+    name: String,
+    reader: Box<dyn BufRead>,
+    number: u64,
+    asks: PhantomData<T>,
+}
+
+impl<T> Lines<T> {
+    /// The lines of this input.
+    pub fn of(input: &Input) -> Result<Lines<T>, Failure> {
+        Ok(Lines {
+            name: input.name(),
+            reader: input.open()?,
+            number: 0,
+            asks: PhantomData,
+        })
+    }
+}
+
+impl<T> Iterator for Lines<T>
+where
+    T: FromStr<Err: Display>,
+{
+    type Item = Result<(u64, T), Failure>;
+
+    fn next(&mut self) -> Option<Self::Item> {
+        loop {
+            self.number += 1;
+            match next(&mut self.reader) {
+                Ok(Line::Asks(asked)) => return Some(Ok((self.number, asked))),
+                Ok(Line::Empty) => {}
+                Ok(Line::End) => return None,
+                Err(why) => return Some(Err(bad_line(&self.name, self.number, &why))),
+            }
+        }
+    }
+}
+
+/// Why a line of an input of this name can't be taken.
+pub fn bad_line(name: &str, number: u64, why: &str) -> Failure {
+    Failure::input(format!("{name}, line {number}: {why}"))
 }
 
 /// What a line holds.

@@ -5,6 +5,7 @@ mod help;
 mod line;
 mod lines;
 mod options;
+mod record;
 mod refusals;
 mod replay;
 mod routines;
@@ -37,6 +38,7 @@ fn dispatched(words: &[OsString]) -> Result<(), Failure> {
     match first.to_str() {
         Some("run") => run::command(rest),
         Some("replay") => replay::command(rest),
+        Some("record") => record::command(rest),
         Some("routines") => routines::command(rest),
         Some("refusals") => refusals::command(rest),
         Some("help" | "--help" | "-h") => help::print(help::HELP),

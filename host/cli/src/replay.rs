@@ -1,20 +1,20 @@
-//! `psic replay`: the commands of a recording, put to a fresh controller.
+//! `psic replay`: the commands of a recording, put to a fresh controller, and written as a recording if a word says so.
 
 use std::collections::BTreeMap;
 use std::ffi::OsString;
 use std::fmt;
 use std::io::{self, BufWriter, IsTerminal, Read, Write};
 
-use psic::{Answer, Controller, Reading, Refusal};
+use psic::{Answer, Command, Controller, Reading, Refusal};
 
 use crate::failure::Failure;
 use crate::line;
-use crate::options::{needs, Options};
+use crate::options::{needs, write_to, Options, SIZES, WRITE};
 
 /// Replays the recording of a file or of standard input, and prints each command with its time, then a summary. A fault ends the
-/// recording: what was taken before it is printed, and the fault is told as a failure.
+/// recording: what was taken before it is printed and written, and the fault is told as a failure.
 pub fn command(words: &[OsString]) -> Result<(), Failure> {
-    let mut options = Options::of("replay", words)?;
+    let mut options = Options::of("replay", &[SIZES[0], SIZES[1], WRITE], words)?;
     let input = options.input.take();
     let input = input.ok_or_else(|| needs("replay", "FILE, or '-' for standard input"))?;
     let controller = options.fresh(Controller::new)?;
@@ -25,11 +25,20 @@ pub fn command(words: &[OsString]) -> Result<(), Failure> {
         .read_to_end(&mut text)
         .map_err(|error| Failure::input(format!("{name} can't be read: {error}")))?;
     let reading = psic::read(&text);
+    if let Some(path) = options.write {
+        write_to(&path, &recording(&reading)?)?;
+    }
     listing(controller, &reading, &Progress::of(&text, &reading))?;
     match reading.fault {
         None => Ok(()),
         Some(fault) => Err(Failure::input(format!("{name}, {}", fault.explain(&text)))),
     }
+}
+
+/// The replayed run as a recording. All that is read can be written: its values fit, and there are no more than can be.
+fn recording(reading: &Reading) -> Result<Vec<u8>, Failure> {
+    let run: Vec<Command> = reading.commands.iter().map(|s| s.command).collect();
+    psic::write(&run).map_err(|refusal| Failure::input(refusal.to_string()))
 }
 
 /// A line for each command, then the summary.

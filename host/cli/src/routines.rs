@@ -8,11 +8,11 @@ use psic::{Handovers, Refusal, RoutineCall, Routines};
 use crate::failure::Failure;
 use crate::line;
 use crate::lines;
-use crate::options::{Input, Options};
+use crate::options::{Input, Options, SIZES};
 
 /// Runs the calls of a file or of standard input, and prints the handovers in them. A bad line ends the run: those before it are printed.
 pub fn command(words: &[OsString]) -> Result<(), Failure> {
-    let mut options = Options::of("routines", words)?;
+    let mut options = Options::of("routines", &SIZES, words)?;
     let input = options.input.take().unwrap_or(Input::Standard);
     let mut routines = options.fresh(Routines::new)?;
     let mut handovers = Handovers::default();

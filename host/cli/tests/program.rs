@@ -2,6 +2,7 @@
 
 use std::fs::OpenOptions;
 use std::io::Write;
+use std::path::PathBuf;
 use std::process::{Command, Output, Stdio};
 
 const EXAMPLE: &str = "../examples/two_beams.txt";
@@ -127,11 +128,14 @@ fn bad_input_has_status_1() {
     let (status, _, err) = answered(&[&SIZES[..], &["tests"]].concat(), b"");
     assert_eq!(status, 1);
     assert!(err.starts_with("psic: tests, line 1: "));
+    let (status, out, err) = answered(&["record", "no such file"], b"");
+    assert_eq!((status, out.as_str()), (1, ""));
+    assert!(err.starts_with("psic: no such file can't be opened: "));
 }
 
 #[test]
 fn wrong_usage_has_status_2_and_points_to_the_help() {
-    let wrong: [&[&str]; 19] = [
+    let wrong: [&[&str]; 28] = [
         &[],
         &["walk"],
         &["run"],
@@ -159,6 +163,32 @@ fn wrong_usage_has_status_2_and_points_to_the_help() {
         &["routines", "--sources", "3"],
         &["routines", "--cores", "2", HANDOVER],
         &["routines", "--sources", "3", "--cores", "2", "--table"],
+        &["run", "--sources", "4", "--cores", "4", "--write", "a"],
+        &["replay", RECORDING, "--write", "a", "--cores", "4"],
+        &[
+            "replay",
+            RECORDING,
+            "--sources",
+            "4",
+            "--cores",
+            "4",
+            "--write",
+        ],
+        &[
+            "replay",
+            RECORDING,
+            "--sources",
+            "4",
+            "--cores",
+            "4",
+            "--write",
+            "-",
+        ],
+        &["record", "--sources", "4"],
+        &["record", "--write"],
+        &["record", "--write", "-"],
+        &["record", "--write", "a", "--write", "b"],
+        &["record", EXAMPLE, "-"],
     ];
     for words in wrong {
         let (status, out, err) = answered(words, b"");
@@ -177,6 +207,7 @@ fn a_write_that_fails_is_told() {
         &[&SIZES[..], &[EXAMPLE]].concat()[..],
         &["replay", RECORDING, "--sources", "4", "--cores", "4"],
         &["routines", HANDOVER, "--sources", "3", "--cores", "2"],
+        &["record", EXAMPLE],
         &["refusals"],
         &["--help"],
         &["--version"],
@@ -214,7 +245,13 @@ fn the_help_names_every_command() {
         for form in psic::Command::FORMS.iter().chain(&psic::RoutineCall::FORMS) {
             assert!(out.contains(form), "{form}");
         }
-        for command in ["psic run", "psic replay", "psic routines", "psic refusals"] {
+        for command in [
+            "psic run",
+            "psic replay",
+            "psic record",
+            "psic routines",
+            "psic refusals",
+        ] {
             assert!(out.contains(&format!("\n{command}\n")), "{command}");
         }
     }
@@ -410,6 +447,174 @@ fn a_long_recording_is_replayed_in_silence() {
     assert!(out.ends_with(
         "\ncommands: 65535, accepted: 65535, refused: 0\ncycles: 0, at most 0 a command\n"
     ));
+}
+
+/// A file for a test's own use, of this name.
+fn scratch(name: &str) -> PathBuf {
+    PathBuf::from(env!("CARGO_TARGET_TMPDIR")).join(name)
+}
+
+/// Document 01's own text: trigger 4 alone.
+const TRIGGER_4: &str = "$timescale 1 ns $end\n$scope module psic $end\n$var wire 1 ! stb $end\n$var wire 3 \" cmd $end\n\
+                         $var wire 5 # core $end\n$var wire 8 $ arg $end\n$var wire 9 % prio $end\n$upscope $end\n\
+                         $enddefinitions $end\n#0\nb100 \"\nb0 #\nb100 $\nb0 %\n1!\n#1\n0!\n";
+
+#[test]
+fn a_run_is_recorded_as_document_01_shows_it() {
+    let expected = (0, TRIGGER_4.to_string(), String::new());
+    assert_eq!(answered(&["record"], b"trigger 4\n"), expected);
+    let commented = b"# the model's own example\n\n  trigger 4  # alone";
+    assert_eq!(answered(&["record", "-"], commented), expected);
+    let (definitions, _) = TRIGGER_4.split_once("#0").expect("a time");
+    let empty = (0, definitions.to_string(), String::new());
+    assert_eq!(answered(&["record"], b"# nothing\n"), empty);
+}
+
+/// What the worked example runs is recorded, and its replay prints the same answers.
+#[test]
+fn a_recorded_run_replays_as_it_ran() {
+    let file = scratch("recorded.vcd");
+    let path = file.to_str().expect("text");
+    let (status, out, err) = answered(&["record", EXAMPLE, "--write", path], b"");
+    assert_eq!((status, out.as_str(), err.as_str()), (0, "", ""));
+    let recorded = std::fs::read(&file).expect("the file is written");
+    assert_eq!(recorded, answered(&["record", EXAMPLE], b"").1.as_bytes());
+    let (status, out, err) = answered(&["replay", path, "--sources", "4", "--cores", "4"], b"");
+    assert_eq!((status, err.as_str()), (0, ""));
+    let lines = out.lines().filter_map(|line| line.strip_prefix('#'));
+    let lines: Vec<(&str, &str)> = lines.filter_map(|line| line.split_once(' ')).collect();
+    let by_run = include_str!("../../examples/two_beams.stdout");
+    let expected = by_run.lines().enumerate();
+    let expected: Vec<(String, &str)> = expected.map(|(i, l)| ((2 * i).to_string(), l)).collect();
+    assert_eq!(lines.len(), expected.len());
+    for (line, (time, words)) in lines.into_iter().zip(&expected) {
+        assert_eq!(line, (time.as_str(), *words));
+    }
+}
+
+/// Refused commands are commands of the run, and are recorded too.
+#[test]
+fn a_replayed_run_is_written_refused_commands_too() {
+    let stamps = "#1 b101 \" b0 # 1! #2 0! #3 b100 \" b1001 $ 1! #4 0! #5 b100 $ 1! #6 0! #7 1! #8 0! #9 b10 \" 1!";
+    let input = [DEFINED, stamps].concat();
+    let file = scratch("refused.vcd");
+    let path = file.to_str().expect("text");
+    let words = [
+        "replay",
+        "--sources",
+        "4",
+        "--cores",
+        "4",
+        "-",
+        "--write",
+        path,
+    ];
+    let printed = replayed(input.as_bytes());
+    assert_eq!(answered(&words, input.as_bytes()), printed);
+    let run = "claim on core 0\ntrigger 9\ntrigger 4\ntrigger 4\nunmask 4\n";
+    let expected = answered(&["record"], run.as_bytes()).1;
+    let written = std::fs::read(&file).expect("the file is written");
+    assert_eq!(text(&written), expected);
+}
+
+/// The sample's replay, written, is the worked example's run, recorded.
+#[test]
+fn the_samples_replay_is_written() {
+    let file = scratch("sample.vcd");
+    let path = file.to_str().expect("text");
+    let sizes = ["--sources", "4", "--cores", "4", "--write", path];
+    let (status, out, err) = answered(&[&["replay", RECORDING], &sizes[..]].concat(), b"");
+    let stored = include_str!("../../examples/two_beams.vcd.stdout");
+    assert_eq!((status, out.as_str(), err.as_str()), (0, stored, ""));
+    let written = std::fs::read(&file).expect("the file is written");
+    assert_eq!(text(&written), answered(&["record", EXAMPLE], b"").1);
+}
+
+/// A fault ends the replay; what was taken before it is the replayed run.
+#[test]
+fn what_was_taken_before_a_fault_is_written() {
+    let file = scratch("fault.vcd");
+    let path = file.to_str().expect("text");
+    let input = [DEFINED, "#1 b100 \" b100 $ 1! #1 1!"].concat();
+    let words = [
+        "replay",
+        "-",
+        "--write",
+        path,
+        "--sources",
+        "4",
+        "--cores",
+        "4",
+    ];
+    let (status, _, err) = answered(&words, input.as_bytes());
+    assert_eq!(status, 1);
+    assert!(err.contains("refused by 14"), "{err}");
+    let written = std::fs::read(&file).expect("the file is written");
+    assert_eq!(text(&written), TRIGGER_4);
+}
+
+#[test]
+fn a_line_that_can_not_be_recorded_is_named_and_nothing_is_written() {
+    let limits =
+        "a recording has ids up to 255, cores up to 31 and priorities up to 511 (refused by 15)";
+    let file = scratch("untouched.vcd");
+    let path = file.to_str().expect("text");
+    std::fs::write(&file, "as it was").expect("the file can be written");
+    for (bad, why) in [
+        ("trigger 256", limits),
+        ("claim on core 32", limits),
+        ("set core 31 to 512", limits),
+        ("set source 255 to 65535", limits),
+        ("claim 0", "'claim 0' is no command"),
+        ("enter on core 0", "'enter on core 0' is no command"),
+        ("trigger 65536", "'65536' is no number from 0 to 65535"),
+    ] {
+        let input = ["trigger 255\n\n# a comment\n", bad, "\nclaim on core 31\n"].concat();
+        let told = format!("psic: standard input, line 4: {why}\n");
+        let (status, out, err) = answered(&["record"], input.as_bytes());
+        assert_eq!((status, out.as_str(), err.as_str()), (1, "", told.as_str()));
+        let (status, _, err) = answered(&["record", "--write", path], input.as_bytes());
+        assert_eq!((status, err.as_str()), (1, told.as_str()));
+        let left = std::fs::read(&file).expect("the file is there");
+        assert_eq!(text(&left), "as it was");
+    }
+}
+
+#[test]
+fn a_recording_has_at_most_65535_commands() {
+    let most = "trigger 1\n".repeat(65_535);
+    let (status, out, err) = answered(&["record"], most.as_bytes());
+    assert_eq!((status, err.as_str()), (0, ""));
+    assert!(out.ends_with("\n#131069\n0!\n"));
+    let more = ["# one more\n", &most, "trigger 1\ntrigger 1\nno command\n"].concat();
+    let (status, out, err) = answered(&["record"], more.as_bytes());
+    assert_eq!((status, out.as_str()), (1, ""));
+    let told = "psic: standard input, line 65537: a recording has at most 65535 commands (refused by 15)\n";
+    assert_eq!(err, told);
+}
+
+#[test]
+fn a_recording_that_can_not_be_written_is_told() {
+    let folder = scratch("");
+    let folder = folder.to_str().expect("text");
+    for words in [
+        &["record", EXAMPLE, "--write", folder][..],
+        &["record", EXAMPLE, "--write", "/dev/full"],
+        &[
+            "replay",
+            RECORDING,
+            "--sources",
+            "4",
+            "--cores",
+            "4",
+            "--write",
+            folder,
+        ],
+    ] {
+        let (status, out, err) = answered(words, b"");
+        assert_eq!((status, out.as_str()), (1, ""), "{words:?}");
+        assert!(err.contains(" can't be written: "), "{err}");
+    }
 }
 
 const ROUTINES: [&str; 5] = ["routines", "--sources", "3", "--cores", "2"];

@@ -1,6 +1,6 @@
 /* The header against the library, in C and in C++: T2 to T8 of document 01's table by the typed commands, the run of document 02's
- * request 2/14, every accessor, a list, the calls on lent records, document 01's recording read and replayed, a handover between
- * interrupt routines, refusals of each kind that a host can meet, and the version. */
+ * request 2/14, every accessor, a list, the calls on lent records, document 01's recording read, replayed and written, a handover
+ * between interrupt routines, refusals of each kind that a host can meet, and the version. */
 #include <errno.h>
 #include <stdio.h>
 #include <string.h>
@@ -219,6 +219,55 @@ static void replays(void) {
     expect(memcmp(&state, &expected, sizeof state) == 0, "the state is that of trigger 4");
 }
 
+/* A run of one command, written into the first bytes of a buffer that has some more. */
+static psic_written write_one(psic_command command, uint16_t at, uint16_t priority, size_t room) {
+    uint8_t list[PSIC_COMMAND_SIZE];
+    const psic_listed listed = {command, at, priority};
+    psic_set_command_at(list, 0, listed);
+    memset(text, 0x99, sizeof text);
+    return psic_write_run(list, 1, text, room);
+}
+
+static bool writes(psic_written written, psic_number number, size_t length) {
+    return written.number == number && written.length == length;
+}
+
+static void written_runs(void) {
+    expect(writes(write_one(PSIC_TRIGGER, 4, 0, sizeof text), PSIC_OK, LENGTH), "document 01's recording is written");
+    expect(memcmp(text, trigger_4, LENGTH) == 0 && untouched(text + LENGTH, sizeof text - LENGTH), "its text, and nothing behind it");
+    expect(writes(write_one(PSIC_TRIGGER, 4, 65535, LENGTH), PSIC_OK, LENGTH), "an exact fit; the priority isn't used");
+    expect(memcmp(text, trigger_4, LENGTH) == 0 && untouched(text + LENGTH, sizeof text - LENGTH), "the unused priority is 0");
+    expect(writes(write_one(PSIC_TRIGGER, 4, 0, LENGTH - 1), PSIC_UNWRITABLE, 0) && untouched(text, sizeof text), "a byte too few: 15");
+    expect(writes(write_one(PSIC_TRIGGER, 256, 0, sizeof text), PSIC_UNWRITABLE, 0) && untouched(text, sizeof text), "id 256: 15");
+    expect(writes(write_one(PSIC_CLAIM, 32, 0, sizeof text), PSIC_UNWRITABLE, 0), "core 32: 15");
+    expect(writes(write_one(PSIC_SET_CORE_PRIORITY, 0, 512, sizeof text), PSIC_UNWRITABLE, 0), "priority 512: 15");
+    const uint8_t unnamed[PSIC_COMMAND_SIZE] = {8, 4, 0, 0, 0};
+    expect(writes(psic_write_run(unnamed, 1, text, sizeof text), PSIC_UNREADABLE, 0), "a command's number above 7: 255");
+    expect(untouched(text, sizeof text), "a refusal leaves the buffer as it was");
+    expect(strcmp(psic_in_words(PSIC_UNWRITABLE), psic_in_words(PSIC_UNREADABLE)) != 0, "15 in words");
+}
+
+/* 65,536 commands of the longest text: one too many; 65,535 of them are written and read back. */
+static void longest_runs(void) {
+    static uint8_t list[PSIC_COMMAND_SIZE * (PSIC_MAX_COMMANDS + 1)], read_back[PSIC_COMMAND_SIZE * PSIC_MAX_COMMANDS];
+    static uint8_t longest[PSIC_TEXT_SIZE(PSIC_MAX_COMMANDS + 1)];
+    static uint64_t stamps[PSIC_MAX_COMMANDS];
+    const psic_listed listed = {PSIC_SET_SOURCE_PRIORITY, 255, 511};
+    for (size_t i = 0; i <= PSIC_MAX_COMMANDS; i++) {
+        psic_set_command_at(list, i, listed);
+    }
+    expect(psic_write(list, 3, longest, sizeof longest) == PSIC_UNREADABLE, "a cut list: 255");
+    expect(writes(psic_write_run(list, PSIC_MAX_COMMANDS + 1, longest, sizeof longest), PSIC_UNWRITABLE, 0), "65,536 commands: 15");
+    expect(writes(psic_write_run(list, 0, longest, sizeof longest), PSIC_OK, PSIC_TEXT_SIZE(0)), "an empty run is its definitions");
+    psic_written written = psic_write_run(list, PSIC_MAX_COMMANDS, longest, sizeof longest);
+    psic_written less = psic_write_run(list, PSIC_MAX_COMMANDS - 1, longest, sizeof longest);
+    expect(written.number == PSIC_OK && written.length == less.length + 57, "the last of 65,535 commands has 57 bytes");
+    written = psic_write_run(list, PSIC_MAX_COMMANDS, longest, PSIC_TEXT_SIZE(PSIC_MAX_COMMANDS));
+    psic_report report = psic_read(longest, written.length, read_back, sizeof read_back, stamps, PSIC_MAX_COMMANDS);
+    expect(reports(report, PSIC_OK, PSIC_MAX_COMMANDS, written.length), "65,535 commands are read back");
+    expect(memcmp(read_back, list, sizeof read_back) == 0 && stamps[PSIC_MAX_COMMANDS - 1] == 131068, "the same ones, times counted");
+}
+
 /* Three sources, unmasked with priority equal to their id, on two cores. */
 static void start_routines(psic_routines *routines) {
     memset(routines, 0x99, sizeof *routines);
@@ -313,6 +362,8 @@ int main(void) {
     recordings();
     no_room();
     replays();
+    written_runs();
+    longest_runs();
     handover();
     refused_routines();
     listed_routines();

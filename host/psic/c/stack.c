@@ -83,6 +83,17 @@ static void *replay_recording(void *unused) {
     return report.count == 3 * PSIC_MAX_SOURCES && report.number == PSIC_BAD_TEXT ? unused : text;
 }
 
+/* As many commands as can be written, of the longest text. */
+static void *write_recording(void *unused) {
+    static uint8_t list[PSIC_COMMAND_SIZE * PSIC_MAX_COMMANDS];
+    static uint8_t written[PSIC_TEXT_SIZE(PSIC_MAX_COMMANDS)];
+    const psic_listed longest = {PSIC_SET_SOURCE_PRIORITY, 255, 511};
+    for (size_t i = 0; i < PSIC_MAX_COMMANDS; i++) {
+        psic_set_command_at(list, i, longest);
+    }
+    return psic_write_run(list, PSIC_MAX_COMMANDS, written, sizeof written).number == PSIC_OK ? unused : list;
+}
+
 static psic_routines routines;
 static uint16_t handovers[PSIC_TABLE_CELLS];
 
@@ -134,11 +145,12 @@ static size_t taken_by(void *(*doing)(void *)) {
 }
 
 int main(void) {
-    void *(*const calls[])(void *) = {make,           run_list,         each_command,  lent_records,
-                                      read_recording, replay_recording, make_routines, simulate,
-                                      enter_and_exit};
-    const char *const names[] = {"psic_make",   "psic_run",           "psic_execute",  "the calls on lent records", "psic_read",
-                                 "psic_replay", "psic_make_routines", "psic_simulate", "psic_enter and psic_exit"};
+    void *(*const calls[])(void *) = {make,           run_list,         each_command,    lent_records,
+                                      read_recording, replay_recording, write_recording, make_routines,
+                                      simulate,       enter_and_exit};
+    const char *const names[] = {"psic_make",     "psic_run",    "psic_execute", "the calls on lent records",
+                                 "psic_read",     "psic_replay", "psic_write",   "psic_make_routines",
+                                 "psic_simulate", "psic_enter and psic_exit"};
     const int count = (int)(sizeof calls / sizeof calls[0]);
     int failed = 0;
     size_t base = taken_by(nothing);

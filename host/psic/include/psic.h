@@ -12,6 +12,7 @@
  *   if (answer.number != PSIC_OK) puts(psic_in_words(answer.number));
  *   uint16_t shown = psic_current_priority(&state, psic_core_id_of(0));
  *   psic_report report = psic_replay(32, 2, text, length, state.bytes, sizeof state.bytes, answers, PSIC_ANSWER_SIZE * psic_room(length));
+ *   psic_written written = psic_write_run(list, count, text, PSIC_TEXT_SIZE(count));
  *
  *   psic_routines routines;                                          the interrupt routines on all cores, simulated
  *   psic_handovers handovers = {{{0}}};
@@ -22,7 +23,8 @@
  *   - It ends and answers, whatever the bytes and numbers that it is given.
  *   - A number other than PSIC_OK leaves every buffer and record as it was, byte for byte, with id 0 and 0 cycles.
  *     That is also so of psic_init and psic_make: the state then has no content of theirs, so look at the number.
- *     The numbers 11 to 19 of a recording are no such refusals: what was taken before the fault stands, and is written.
+ *     The numbers 11 to 14 and 19 of a recording that is read are no such refusals: what was taken before the fault stands, and is
+ *     written.
  *   - It allocates nothing, waits for nothing, keeps nothing between calls and doesn't touch errno. It may be called from a signal
  *     handler or an interrupt routine, and takes less than 16 KB of stack.
  *   - Threads may call at once on different states. On one state a call must be alone: the host locks, if it shares one.
@@ -36,8 +38,8 @@
 #include <stdint.h>
 
 /* The version of this header: ten thousand times the major number, a hundred times the minor one, and the patch. */
-#define PSIC_VERSION 30000u
-#define PSIC_VERSION_TEXT "3.0.0"
+#define PSIC_VERSION 30100u
+#define PSIC_VERSION_TEXT "3.1.0"
 
 /* The largest sizes: "n sources, 1 to 128", "m cores, 1 to 32". */
 #define PSIC_MAX_SOURCES 128u
@@ -52,8 +54,12 @@
 #define PSIC_ROUTINES_SIZE 1476u
 #define PSIC_TABLE_CELLS 1024u
 
-/* The most commands that are taken from one recording. */
+/* The most commands that are taken from one recording, and that are written into one. */
 #define PSIC_MAX_COMMANDS 65535u
+
+/* The most bytes that the text of so many commands has where they are written: 197 of definitions, and up to 57 for a command. A set
+ * source priority has that many from the 50,001st command on, where times have six digits. */
+#define PSIC_TEXT_SIZE(commands) ((size_t)197 + (size_t)57 * (size_t)(commands))
 
 /* The answer of psic_run and psic_simulate where they run nothing and write nothing. */
 #define PSIC_NO_COUNT UINT64_MAX
@@ -109,9 +115,12 @@ typedef enum {
     PSIC_UNKNOWN_VALUE = 13,     /* "an x or z in stb at the end of a stamp, or at a strobe in cmd or a value that the command uses" */
     PSIC_TIME_NOT_RISING = 14,   /* "time not rising" */
     PSIC_TOO_MANY_COMMANDS = 19, /* "a command after the 65,535th" */
-    PSIC_UNREADABLE = 255  /* none of document 01's: a state's buffer of another length or with a flag that is neither 0 nor 1, a
-                              command's number above 7, a buffer without room for what a recording may hold, or active ids or last
-                              holders of another length */
+    /* document 02's, of a run that is to be written */
+    PSIC_UNWRITABLE = 15, /* "a run of over 65,535 commands, a used value too large for its variable or a full text longer than the
+                             lent buffer" */
+    PSIC_UNREADABLE = 255 /* none of the papers': a state's buffer of another length or with a flag that is neither 0 nor 1, a
+                             command's number above 7, a list that is no whole number of commands, a buffer without room for what a
+                             recording may hold, or active ids or last holders of another length */
 } psic_number;
 
 /* A number for no in words; of another number, that it is none. */
@@ -132,6 +141,7 @@ static inline const char *psic_in_words(unsigned number) {
     case PSIC_UNKNOWN_VALUE: return "stb, or a value that the command uses, has an x or z";
     case PSIC_TIME_NOT_RISING: return "the time isn't above the one before";
     case PSIC_TOO_MANY_COMMANDS: return "there is a command after the 65,535th";
+    case PSIC_UNWRITABLE: return "there are over 65,535 commands, a value is too large for its variable, or the text for its buffer";
     case PSIC_UNREADABLE: return "the bytes can't be read";
     default: return "no number of this library";
     }
@@ -297,6 +307,14 @@ psic_report psic_read(const uint8_t *text, size_t text_len, uint8_t *commands, s
 psic_report psic_replay(uint16_t n, uint16_t m, const uint8_t *text, size_t text_len, uint8_t *state, size_t state_len, uint8_t *answers,
                         size_t answers_len);
 
+/* A run of commands, PSIC_COMMAND_SIZE bytes each as psic_run reads them, as a recording: Value Change Dump text, which document 01 shows
+ * whole for one command, in the front of text. "One command to two stamps, all four values each time, stb up and down, stamps counted from
+ * 0. Values that a command doesn't use are 0"; "an empty run ends after the definitions". Reading it gives the same commands in the same
+ * order. Answers number + 256 * length. PSIC_UNREADABLE if the list is no whole number of commands or has a command's number above 7;
+ * PSIC_UNWRITABLE for over PSIC_MAX_COMMANDS commands, for an id above 255, a core above 31 or a priority above 511 that its command uses,
+ * or for a text longer than text_len: no text is longer than PSIC_TEXT_SIZE of its commands. What lies behind the text stays as it was. */
+uint64_t psic_write(const uint8_t *list, size_t list_len, uint8_t *text, size_t text_len);
+
 /* A fresh simulation of n sources and m cores: a fresh controller, every core idle, nothing held. As the next two calls, it answers as
  * psic_make does; lengths are in bytes for the state, else in numbers. */
 uint64_t psic_make_routines(uint16_t n, uint16_t m, uint8_t *state, size_t state_len, uint16_t *active, size_t active_len,
@@ -353,6 +371,31 @@ static inline psic_answer psic_answer_at(const uint8_t *answers, size_t i) {
     answer.id = psic_source_id_of((uint16_t)(bytes[1] | bytes[2] << 8));
     answer.cycles = (uint16_t)(bytes[3] | bytes[4] << 8);
     return answer;
+}
+
+/* Puts a command at position i of a list. */
+static inline void psic_set_command_at(uint8_t *list, size_t i, psic_listed listed) {
+    uint8_t *bytes = list + PSIC_COMMAND_SIZE * i;
+    bytes[0] = (uint8_t)listed.command;
+    bytes[1] = (uint8_t)(listed.at & 0xff);
+    bytes[2] = (uint8_t)(listed.at >> 8);
+    bytes[3] = (uint8_t)(listed.priority & 0xff);
+    bytes[4] = (uint8_t)(listed.priority >> 8);
+}
+
+/* What writing a run answers: with PSIC_OK the text's length, else 0. */
+typedef struct {
+    psic_number number;
+    size_t length;
+} psic_written;
+
+/* A run of so many commands, written. */
+static inline psic_written psic_write_run(const uint8_t *list, size_t commands, uint8_t *text, size_t text_len) {
+    uint64_t packed = psic_write(list, PSIC_COMMAND_SIZE * commands, text, text_len);
+    psic_written written;
+    written.number = (psic_number)(packed & 0xff);
+    written.length = (size_t)(packed >> 8);
+    return written;
 }
 
 /* A fresh controller: "every source masked, configured priority 1, nothing pending; every core at 0, boxes empty". */

@@ -60,7 +60,7 @@ impl fmt::Display for Answer {
 }
 
 /// Document 01's numbers for no, each with its row: "given exactly when, no earlier check refusing". They are checked in the order 1,
-/// then 3 or 4, then 5, then 6, 7, 8 or 9. A refused call leaves everything as it was.
+/// then 3 or 4, then 5, then 6, 7, 8 or 9. Document 02's 15 refuses to write a run. A refused call leaves everything as it was.
 #[repr(u8)]
 #[non_exhaustive]
 #[derive(Clone, Copy, Debug, PartialEq, Eq, Hash)]
@@ -84,14 +84,16 @@ pub enum Refusal {
     NotClaimed = 8,
     /// 9, document 02's: "set source priority on a pending source", also to the priority that it has.
     PriorityInUse = 9,
-    /// 255, none of document 01's: bytes that encode no state, or buffers that don't fit. A [`crate::Controller`] never answers it, nor
-    /// do [`crate::Routines`].
+    /// 15: "a run of over 65,535 commands, a used value too large for its variable or a full text longer than the lent buffer".
+    Unwritable = 15,
+    /// 255, none of the papers': bytes that encode no state or no run, or buffers that don't fit. A [`crate::Controller`] never answers it,
+    /// nor do [`crate::Routines`].
     Unreadable = 255,
 }
 
 impl Refusal {
     /// All refusals, by number.
-    pub const ALL: [Refusal; 10] = [
+    pub const ALL: [Refusal; 11] = [
         Refusal::Unsound,
         Refusal::BadSize,
         Refusal::BadCore,
@@ -101,10 +103,11 @@ impl Refusal {
         Refusal::EmptyBox,
         Refusal::NotClaimed,
         Refusal::PriorityInUse,
+        Refusal::Unwritable,
         Refusal::Unreadable,
     ];
 
-    /// The number: document 01's, or 255.
+    /// The number: the papers', or 255.
     pub fn number(self) -> u8 {
         self as u8
     }
@@ -128,6 +131,9 @@ impl Refusal {
             Refusal::EmptyBox => "the box is empty",
             Refusal::NotClaimed => "the request isn't claimed",
             Refusal::PriorityInUse => "the source is pending, so its priority stays",
+            Refusal::Unwritable => {
+                "there are over 65,535 commands, a value is too large for its variable, or the text for its buffer"
+            }
             Refusal::Unreadable => "the bytes can't be read",
         }
     }

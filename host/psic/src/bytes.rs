@@ -1,7 +1,8 @@
-//! Calls on a state as bytes that the host owns (docs/ENCODING.md), for a host that keeps states in memory of its own.
+//! Calls on a state, and on a run of commands, as bytes that the host owns (docs/ENCODING.md), for a host that keeps them in memory of its
+//! own.
 //!
-//! Any bytes may be handed in. Bytes that encode no state and buffers that don't fit are refused by [`Refusal::Unreadable`], and every
-//! refusal leaves all buffers as they were.
+//! Any bytes may be handed in. Bytes that encode no state or no run and buffers that don't fit are refused by [`Refusal::Unreadable`], and
+//! every refusal leaves all buffers as they were.
 //!
 //! ```
 //! use psic::{bytes, Answer, Command, SourceId, ANSWER_SIZE, STATE_SIZE};
@@ -42,5 +43,28 @@ pub fn run(state: &mut [u8], list: &[u8], answers: &mut [u8]) -> Result<usize, R
     match raw::run(state, list, answers) {
         u64::MAX => Err(Refusal::Unreadable),
         taken => Ok(taken as usize),
+    }
+}
+
+/// Writes a run of commands, [`COMMAND_SIZE`](crate::COMMAND_SIZE) bytes each, as a recording to the front of a buffer, and gives the
+/// text's length. [`Refusal::Unreadable`] unless the list is whole commands with numbers 0 to 7; [`Refusal::Unwritable`] as
+/// [`write`](crate::write) says, and if the text is longer than the buffer, for which
+/// [`text_size`](crate::recording::text_size) says what is room enough. What lies behind the text stays as it was.
+///
+/// ```
+/// use psic::{bytes, recording, Command, Refusal, SourceId};
+/// let mut text = [9; recording::text_size(1)];
+/// let length = bytes::write(&Command::Trigger(SourceId(4)).to_bytes(), &mut text)?;
+/// assert!(text[..length].ends_with(b"\n#1\n0!\n"));
+/// assert!(text[length..].iter().all(|&byte| byte == 9));
+/// let too_large = bytes::write(&Command::Trigger(SourceId(256)).to_bytes(), &mut text);
+/// assert_eq!(too_large, Err(Refusal::Unwritable));
+/// # Ok::<(), Refusal>(())
+/// ```
+pub fn write(list: &[u8], text: &mut [u8]) -> Result<usize, Refusal> {
+    let answer = raw::write(list, text);
+    match answer as u8 {
+        0 => Ok((answer >> 8) as usize),
+        number => Err(Refusal::answered(number)),
     }
 }

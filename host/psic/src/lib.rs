@@ -2,7 +2,8 @@
 //! that says why, and a state can be read.
 //!
 //! - [`Controller`] owns a state: make it, put commands to it, read it.
-//! - [`read`] gives the commands of a recording, and [`replay`] puts them to a fresh controller; [`recording`] says more.
+//! - [`read`] gives the commands of a recording, [`replay`] puts them to a fresh controller, and [`write()`] makes a recording of a run of
+//!   commands; [`recording`] says more.
 //! - [`Routines`] simulate the interrupt routines' entry and exit on all cores; [`Handovers`] count which core took over from which.
 //! - [`highest_in`], [`ranges_in`] and [`claim_in_place`] work on records that a host keeps in tables of its own.
 //! - [`bytes`] has the calls on a state as bytes in memory of the host's own, [`raw`] the library's calls with their numbers.
@@ -33,7 +34,7 @@ pub use bytes::STATE_SIZE;
 pub use command::{Command, ParseCommandError, COMMAND_SIZE};
 pub use controller::Controller;
 pub use lent::{claim_in_place, highest_in, ranges_in};
-pub use recording::{read, replay, Fault, FaultKind, Reading, Replay, Stamped};
+pub use recording::{read, replay, write, Fault, FaultKind, Reading, Replay, Stamped};
 pub use records::{Core, CoreId, MessageBox, Owner, Source, SourceId, MAX_CORES, MAX_SOURCES};
 pub use routine_call::RoutineCall;
 pub use routines::{Handovers, Routines, ROUTINES_SIZE};

@@ -86,6 +86,7 @@ extern "C" {
         answers: *mut u8,
         answers_len: usize,
     ) -> Report;
+    fn psic_write(list: *const u8, list_len: usize, text: *mut u8, text_len: usize) -> u64;
     fn psic_make_routines(
         n: u16,
         m: u16,
@@ -213,6 +214,12 @@ pub fn replay(n: u16, m: u16, text: &[u8], state: &mut [u8], answers: &mut [u8])
             answers.len(),
         )
     }
+}
+
+/// A run of commands, 5 bytes each, as a recording in the front of a buffer: number + 256 length, or 15, or 255.
+pub fn write(list: &[u8], text: &mut [u8]) -> u64 {
+    // SAFETY: pointers and lengths are those of two slices; one is lent for the call alone, so that they don't overlap.
+    unsafe { psic_write(list.as_ptr(), list.len(), text.as_mut_ptr(), text.len()) }
 }
 
 /// A fresh simulation of n sources and m cores, in 1,156 bytes for the state, 32 numbers for the active ids and 128 for the last holders:

@@ -1,8 +1,9 @@
-//! The bus monitor's recordings: read into commands, and replayed on a fresh controller.
+//! The bus monitor's recordings: read into commands, replayed on a fresh controller, and written.
 //!
 //! A recording is Value Change Dump text (IEEE 1364), cut down as document 01's last section says. [`read`] gives its commands, each with
 //! the time of the stamp at whose end it was taken; [`replay`] puts them to a fresh controller and goes on after a refused one. The first
-//! fault in reading order ends either, and the commands before it stand, also one taken at its word.
+//! fault in reading order ends either, and the commands before it stand, also one taken at its word. [`write()`] makes such a text of a run
+//! of commands, and reading it gives the same commands in the same order.
 //!
 //! Document 01's own text is trigger 4 alone:
 //!
@@ -35,19 +36,21 @@
 //! let mut controller = Controller::new(32, 2).expect("sizes in range");
 //! assert_eq!(replay.answers, [controller.trigger(SourceId(4))]);
 //! assert_eq!(replay.controller, controller);
+//!
+//! assert_eq!(psic::write(&[Command::Trigger(SourceId(4))]), Ok(text.to_vec()));
 //! ```
 
 use std::error::Error;
 use std::fmt;
 
 use crate::answer::{Answer, Refusal, ANSWER_SIZE};
-use crate::bytes::STATE_SIZE;
+use crate::bytes::{self, STATE_SIZE};
 use crate::command::{Command, COMMAND_SIZE};
 use crate::controller::Controller;
 use crate::explain;
 use crate::raw;
 
-/// The most commands that are taken from one text.
+/// The most commands that are taken from one text, and that are written into one.
 pub const MAX_COMMANDS: usize = 65_535;
 
 /// For how many commands there must be room where a text of this length is read or replayed: how many it holds isn't known before.
@@ -122,6 +125,46 @@ pub fn replay(n: u16, m: u16, text: &[u8]) -> Result<Replay, Refusal> {
         controller: Controller::from_bytes(&state)?,
         fault: Fault::answered(report),
     })
+}
+
+/// The most bytes that the text of so many commands has: 197 of definitions, and up to 57 for a command. A set source priority has that
+/// many from the 50,001st command on, where times have six digits.
+pub const fn text_size(commands: usize) -> usize {
+    DEFINITIONS_SIZE + LONGEST_COMMAND * commands
+}
+
+/// The bytes of the definitions, which are all that the text of an empty run has.
+const DEFINITIONS_SIZE: usize = 197;
+
+/// The most bytes that one command takes.
+const LONGEST_COMMAND: usize = 57;
+
+/// The recording of a run: one command to two stamps, counted from 0, as document 01 shows it. What a controller answers doesn't matter:
+/// a refused command is a command of the run. Refused by [`Refusal::Unwritable`] if there are over 65,535 commands, or if a value that a
+/// command uses is too large for its variable: an id above 255, a core above 31, a priority above 511. [`bytes::write`] writes into a lent
+/// buffer.
+pub fn write(commands: &[Command]) -> Result<Vec<u8>, Refusal> {
+    let list: Vec<u8> = commands.iter().flat_map(|c| c.to_bytes()).collect();
+    // A longer run is refused, whatever room there is.
+    let mut text = vec![0; text_size(commands.len().min(MAX_COMMANDS))];
+    let length = bytes::write(&list, &mut text)?;
+    text.truncate(length);
+    Ok(text)
+}
+
+/// The position of the first command that no recording can hold, since a value that it uses is too large for its variable: the library
+/// refuses to write it alone. A run of at most 65,535 commands without such a one can be written.
+///
+/// ```
+/// use psic::{recording, Command, CoreId, SourceId};
+/// let run = [Command::Trigger(SourceId(255)), Command::Claim(CoreId(31)), Command::Claim(CoreId(32))];
+/// assert_eq!(recording::first_unwritable(&run), Some(2));
+/// assert_eq!(recording::first_unwritable(&run[..2]), None);
+/// ```
+pub fn first_unwritable(commands: &[Command]) -> Option<usize> {
+    let mut text = [0; text_size(1)];
+    let alone = |command: &Command| bytes::write(&command.to_bytes(), &mut text).is_err();
+    commands.iter().position(alone)
 }
 
 /// Where and by which number a text is refused.

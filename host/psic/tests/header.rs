@@ -1,6 +1,6 @@
 //! The C header and this package say the same: numbers, words, sizes.
 
-use psic::{Command, CoreId, FaultKind, Handovers, Refusal, RoutineCall, SourceId};
+use psic::{recording, Command, CoreId, FaultKind, Handovers, Refusal, RoutineCall, SourceId};
 
 const HEADER: &str = include_str!("../include/psic.h");
 
@@ -16,6 +16,7 @@ fn name_of_refusal(refusal: Refusal) -> &'static str {
         Refusal::EmptyBox => "PSIC_EMPTY_BOX",
         Refusal::NotClaimed => "PSIC_NOT_CLAIMED",
         Refusal::PriorityInUse => "PSIC_PRIORITY_IN_USE",
+        Refusal::Unwritable => "PSIC_UNWRITABLE",
         Refusal::Unreadable => "PSIC_UNREADABLE",
         _ => panic!("{refusal:?} has no name in the header"),
     }
@@ -75,7 +76,7 @@ fn the_header_has_the_same_sizes() {
         ("PSIC_ANSWER_SIZE", psic::ANSWER_SIZE),
         ("PSIC_MAX_SOURCES", psic::MAX_SOURCES),
         ("PSIC_MAX_CORES", psic::MAX_CORES),
-        ("PSIC_MAX_COMMANDS", psic::recording::MAX_COMMANDS),
+        ("PSIC_MAX_COMMANDS", recording::MAX_COMMANDS),
         ("PSIC_ROUTINES_SIZE", psic::ROUTINES_SIZE),
         ("PSIC_TABLE_CELLS", size_of::<Handovers>() / 2),
     ] {
@@ -84,6 +85,18 @@ fn the_header_has_the_same_sizes() {
             "{name}"
         );
     }
+}
+
+/// The header's macro for the most bytes of a text has the package's two numbers.
+#[test]
+fn the_header_has_the_same_size_of_a_text() {
+    let definitions = recording::text_size(0);
+    let command = recording::text_size(1) - definitions;
+    let macro_text = format!(
+        "#define PSIC_TEXT_SIZE(commands) ((size_t){definitions} + (size_t){command} * (size_t)(commands))\n"
+    );
+    assert!(HEADER.contains(&macro_text), "{macro_text}");
+    assert_eq!(recording::text_size(1000), definitions + 1000 * command);
 }
 
 /// A number is a refusal, and a line of text a command or a call of a simulation, exactly where the lists say so.

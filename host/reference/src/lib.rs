@@ -4,6 +4,7 @@
 //! - [`ledger`] and [`demand3`] are document 01's book and the check of demand 3 against it.
 //! - [`random`], [`generate`] and [`damage`] make histories, broken states and records to lend.
 //! - [`recording`] reads and replays the bus monitor's text; [`texts`] makes such texts.
+//! - [`writing`] writes a run of commands as such a text.
 //! - [`routines`] simulates the interrupt routines on all cores.
 //! - [`model`] and [`compare`] run two models side by side on one workload.
 
@@ -20,3 +21,4 @@ pub mod reference;
 pub mod routines;
 pub mod texts;
 pub mod well_formed;
+pub mod writing;

@@ -9,6 +9,7 @@
 //! - Set core priority empties every box, then delivers while the highest candidate is above the least core.
 
 pub mod routines;
+pub mod writing;
 
 use psic::{ANSWER_SIZE, COMMAND_SIZE};
 use psic_reference::model::{Model, Reference};

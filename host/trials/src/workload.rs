@@ -1,10 +1,12 @@
 //! The benchmark's commands: a mixed run from a seed, in which every kind is accepted and refused, and a busy one; the states that single
-//! commands of the mixed run meet; and that run as a recording, in the form of document 01's example or mostly made of something else.
+//! commands of the mixed run meet; and that run as a recording, in the form of document 01's example or mostly made of something else, or
+//! as one that can be written.
 
 use std::fmt::Write;
 
 use psic_reference::generate::{self, Mix};
 use psic_reference::random::Random;
+use psic_reference::recording;
 use psic_reference::records::{Command, Controller};
 use psic_reference::reference;
 use psic_reference::routines::{runs, Listed};
@@ -133,6 +135,11 @@ impl Mostly {
 /// is too large for its variable the lower bits are recorded.
 pub fn recording(commands: &[Command]) -> String {
     recording_of(Mostly::Plain, 0, commands)
+}
+
+/// The same commands as a recording can hold them: of an argument that is too large for its variable the lower bits.
+pub fn writable(commands: &[Command]) -> Vec<Command> {
+    recording::read(recording(commands).as_bytes()).commands
 }
 
 /// Commands as a recording of this kind, which a seed determines; the same commands are read from all kinds.

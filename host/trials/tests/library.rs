@@ -6,6 +6,8 @@ mod peer;
 mod recordings;
 mod simulations;
 mod slips;
+mod viewer;
+mod writings;
 
 use psic::bytes;
 use psic::{raw, CoreId, Owner, Refusal, ANSWER_SIZE, COMMAND_SIZE, STATE_SIZE};

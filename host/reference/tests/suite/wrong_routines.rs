@@ -38,7 +38,8 @@ fn simulation_without_a_fault_agrees_with_the_reference() {
 /// Whether runs made for handovers tell a fault: by the comparison, and by the properties alone.
 fn told_by_runs(fault: RoutineFault) -> [bool; 2] {
     let right = &FaultyRoutines { fault };
-    let sizes = [(6, 2), (8, 3), (32, 2), (128, 4)];
+    // at the smallest every source soon has been held by each core
+    let sizes = [(2, 2), (3, 3), (6, 2), (8, 3), (32, 2), (128, 4)];
     let seeds = run_seeds(sizes.len()).into_iter();
     let run = |(seed, (n, m))| runs::run(seed, n, m, 600, Mix::Handing);
     let runs: Vec<Run> = seeds.zip(sizes).map(run).collect();
@@ -84,7 +85,7 @@ fn every_fault_is_found_in_a_few_rounds() {
     faults.extend(Kind::ALL.map(RoutineFault::OnlyTheControllerTested));
     faults.extend(Clause::ALL.map(RoutineFault::Forgets));
     for fault in faults {
-        let found = first_difference(fault, 12);
+        let found = first_difference(fault, 200);
         let Difference { part, .. } = found.unwrap_or_else(|| panic!("{fault:?}"));
         println!("{fault:?}: {part}");
     }
@@ -94,18 +95,18 @@ fn every_fault_is_found_in_a_few_rounds() {
 #[test]
 fn wrong_lists_and_tests_are_found_where_they_are_wrong() {
     for fault in RoutineFault::OF_LISTS {
-        let found = first_difference(fault, 12).expect("it is found");
+        let found = first_difference(fault, 200).expect("it is found");
         let in_lists = matches!(found.put, Put::List(_));
         assert!(in_lists || fault == RoutineFault::CountWraps, "{fault:?}");
     }
     for fault in RoutineFault::OF_TESTS {
-        let found = first_difference(fault, 12).expect("it is found");
+        let found = first_difference(fault, 200).expect("it is found");
         assert_eq!(found.left.1.number, 1, "{fault:?}");
         assert_eq!(found.right.1.number, 0, "{fault:?}");
     }
     for kind in Kind::ALL {
         let fault = RoutineFault::OnlyTheControllerTested(kind);
-        let found = first_difference(fault, 12).expect("it is found");
+        let found = first_difference(fault, 200).expect("it is found");
         assert_eq!(found.left.1.number, 1, "{fault:?}");
         if let Put::Call(call) = found.put {
             assert_eq!(Kind::of(call), kind);

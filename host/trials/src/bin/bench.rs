@@ -1,12 +1,12 @@
 //! The benchmark's workload, and its runs under an instruction counter.
 //!
 //! usage: bench shares N M COUNT SEED               prints how often each kind of command comes in the workload, accepted and refused
-//!        bench write N M COUNT RECORDED SEED FOLDER
+//!        bench write N M COUNT RECORDED WRITTEN SEED FOLDER
 //!                                                  writes the workload: a list, single commands with the states they meet, a recording,
-//!                                                  one of each other kind (comments, ..) of an eighth of its commands; a busy list, and
-//!                                                  a list of calls of the interrupt routines
+//!                                                  one of each other kind (comments, ..) of an eighth of its commands; a busy list, a
+//!                                                  list of calls of the interrupt routines, and a run of so many commands to be written
 //!        bench measure N M FOLDER SECTION..        runs sections of it: lists, busy, lengths, singles, calls, routines, reading, replay,
-//!                                                  or a kind of recording but the plain one, which is read
+//!                                                  writing, or a kind of recording but the plain one, which is read
 //!
 //! What is measured is what goes on inside the function `measured`, which is called once for each line that a run prints: the section's
 //! name, the side (the library or a Rust model), how many units there were, the nanoseconds that they took, and digests of the answers and
@@ -16,7 +16,7 @@ use std::path::Path;
 use std::thread;
 use std::time::Instant;
 
-use psic::recording::MAX_COMMANDS;
+use psic::recording::{text_size, MAX_COMMANDS};
 use psic::{raw, ANSWER_SIZE, COMMAND_SIZE, STATE_SIZE};
 use psic_reference::recording;
 use psic_reference::records::{Answer, Command};
@@ -24,6 +24,7 @@ use psic_reference::routines::Simulation;
 use psic_trials::library::{answer_bytes, bytes_of, command_of, controller_of, encoded, numbers};
 use psic_trials::simulations::{list_bytes, Memory};
 use psic_trials::workload::{self, Mostly, KINDS};
+use psic_trials::writings::unpacked;
 use psic_trials::{fast, peer};
 
 /// Single commands of each kind.
@@ -32,6 +33,10 @@ const SINGLE_SIZE: usize = STATE_SIZE + COMMAND_SIZE;
 
 /// Lengths of the lists into which the section `lengths` cuts the workload's beginning.
 const LENGTHS: [usize; 6] = [1, 4, 16, 64, 256, 1024];
+
+/// Commands of a short run that is written, and how many there are of it.
+const SHORT_RUN: usize = 16;
+const SHORT_RUNS: usize = 256;
 
 /// A command of a recording of another kind for so many of a plain one: most of these texts are several times as long.
 const PLAIN_FOR_OTHER: usize = 8;
@@ -50,10 +55,11 @@ fn run(words: &[String]) {
             let commands = workload::commands(number(seed), size(n), size(m), count_of(count));
             print!("{}", workload::shares(size(n), size(m), &commands));
         }
-        ["write", n, m, count, recorded, seed, folder] => {
+        ["write", n, m, count, recorded, written, seed, folder] => {
             let (n, m, folder) = (size(n), size(m), Path::new(folder));
-            let (count, recorded) = (count_of(count), count_of(recorded));
-            let commands = workload::commands(number(seed), n, m, count.max(recorded));
+            let [count, recorded, written] = [count, recorded, written].map(|word| count_of(word));
+            let most = count.max(recorded).max(written);
+            let commands = workload::commands(number(seed), n, m, most);
             let listed = &commands[..count];
             let list_of = |commands: &[Command]| -> Vec<u8> {
                 commands.iter().flat_map(|&c| encoded(c)).collect()
@@ -72,6 +78,8 @@ fn run(words: &[String]) {
             }
             let text = workload::recording(&commands[..recorded]);
             write(folder, "recording", text.as_bytes());
+            let run = workload::writable(&commands[..written]);
+            write(folder, "run", &list_of(&run));
             let few = &commands[..recorded / PLAIN_FOR_OTHER];
             for (name, kind) in other_kinds() {
                 let text = workload::recording_of(kind, number(seed), few);
@@ -169,6 +177,10 @@ impl Workload<'_> {
             "routines" => self.routines(),
             "reading" => self.reading("reading", "recording"),
             "replay" => self.replay(),
+            "writing" => {
+                self.writing("run", usize::MAX, 1);
+                self.writing("short runs", SHORT_RUN, SHORT_RUNS);
+            }
             kind if other_kinds().any(|(name, _)| name == kind) => {
                 self.reading(kind, &format!("recording-{kind}"))
             }
@@ -460,7 +472,49 @@ impl Workload<'_> {
             |(_, answers)| (answers.clone(), Vec::new()),
         );
     }
+
+    /// Runs cut from the workload's one, so many of at most so many commands each, written one behind the other. All sides take commands as
+    /// bytes and write into a buffer.
+    fn writing(&self, name: &str, commands: usize, runs: usize) {
+        let list = self.read("run");
+        let size = COMMAND_SIZE * commands.min(list.len() / COMMAND_SIZE);
+        let runs: Vec<&[u8]> = list.chunks_exact(size).take(runs).collect();
+        let write_all = |write: Write, text: &mut [u8]| {
+            let mut end = 0;
+            for run in &runs {
+                let (number, length) = unpacked(write(run, &mut text[end..]));
+                assert_eq!(number, 0, "the run can be written");
+                end += length;
+            }
+            end
+        };
+        let room: usize = runs
+            .iter()
+            .map(|run| text_size(run.len() / COMMAND_SIZE))
+            .sum();
+        let units = write_all(peer::writing::plain, &mut vec![0; room]);
+        let sides: [(&str, Write); 3] = [
+            ("library", raw::write),
+            ("plain", peer::writing::plain),
+            ("tables", peer::writing::by_tables),
+        ];
+        for (side, write) in sides {
+            measure(
+                name,
+                side,
+                units,
+                vec![0; room],
+                |text| {
+                    write_all(write, text);
+                },
+                |text| (text.clone(), Vec::new()),
+            );
+        }
+    }
 }
+
+/// A list of commands written into a buffer.
+type Write = fn(&[u8], &mut [u8]) -> u64;
 
 fn by_fast(state: &mut fast::Controller, command: Command) -> [u8; ANSWER_SIZE] {
     let outcome = state.execute(fast::Command::from(command));

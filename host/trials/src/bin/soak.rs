@@ -2,9 +2,11 @@
 //!
 //! usage: `soak [ROUNDS [LENGTH [SEED]]]` (default: 12000 rounds of 1000 commands, and a seed from the clock)
 //!        `soak texts [COUNT [SEED]]` (default: 1000000 texts)
+//!        `soak writings [COUNT [SEED]]` (default: 100000 runs)
 //!        `soak routines [ROUNDS [LENGTH [SEED]]]` (default: 4000 rounds of 1000 calls)
 //!
-//! Each text is read, one in four also replayed, and the totals are printed by number.
+//! Each text is read, one in four also replayed, and the totals are printed by number. Each run is written into a buffer that fits it
+//! exactly, or not, or amply.
 //!
 //! Each round of commands runs, from one printed seed, makings of any sizes, a history by single commands and as a list, the same from a
 //! sound state made from its end, one command of each kind and all of them as a list on broken states made from its end, lists of several
@@ -19,13 +21,16 @@ use psic_reference::generate::{self, Mix};
 use psic_reference::model::Reference;
 use psic_reference::random::Random;
 use psic_reference::routines;
+use psic_reference::writing::compare;
 use psic_trials::library::Library;
 use psic_trials::recordings::{self, Trial};
 use psic_trials::simulations;
+use psic_trials::writings;
 
 fn main() {
     let mut words = std::env::args().skip(1).peekable();
     let texts = words.next_if_eq("texts").is_some();
+    let writings = words.next_if_eq("writings").is_some();
     let routines = words.next_if_eq("routines").is_some();
     let numbers = words.map(|word| {
         word.parse::<u64>()
@@ -33,6 +38,8 @@ fn main() {
     });
     if texts {
         read_texts(numbers);
+    } else if writings {
+        write_runs(numbers);
     } else if routines {
         run_routines(numbers);
     } else {
@@ -62,6 +69,28 @@ fn read_texts(mut words: impl Iterator<Item = u64>) {
     }
     for (number, replays) in &totals.replays {
         println!("number {number}: {replays} replays");
+    }
+}
+
+fn write_runs(mut words: impl Iterator<Item = u64>) {
+    let count = words.next().unwrap_or(100_000);
+    let seed = words.next().unwrap_or_else(clock);
+    println!("seed {seed}, {count} runs");
+    let mut trial = compare::Trial::new(seed);
+    for position in 1..=count {
+        if let Err(difference) = trial.step(&writings::Library) {
+            println!("run {position}: {difference}");
+            std::process::exit(1);
+        }
+        if position % 10_000 == 0 {
+            println!("{position} runs, no difference");
+        }
+    }
+    let totals = &trial.totals;
+    let (bytes, commands) = (totals.bytes, totals.commands);
+    println!("{count} runs, {bytes} bytes with {commands} commands written, 0 differences");
+    for (number, calls) in &totals.calls {
+        println!("number {number}: {calls} calls");
     }
 }
 

@@ -130,7 +130,7 @@ fn a_replay_without_room_is_refused_first_of_all() {
 }
 
 /// Document 01's own text.
-const TRIGGER_4: &str = "$timescale 1 ns $end\n$scope module psic $end\n$var wire 1 ! stb $end\n$var wire 3 \" cmd $end\n\
+pub const TRIGGER_4: &str = "$timescale 1 ns $end\n$scope module psic $end\n$var wire 1 ! stb $end\n$var wire 3 \" cmd $end\n\
                          $var wire 5 # core $end\n$var wire 8 $ arg $end\n$var wire 9 % prio $end\n$upscope $end\n\
                          $enddefinitions $end\n#0\nb100 \"\nb0 #\nb100 $\nb0 %\n1!\n#1\n0!\n";
 

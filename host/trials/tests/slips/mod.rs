@@ -48,6 +48,11 @@ pub enum Slip {
     ReplayState,
     ReplayStateOfRefusedSizes,
     ReplayBehindAnswers,
+    WriteNumber,
+    WriteLength,
+    WriteText,
+    WriteBehindText,
+    WriteBufferOfRefused,
     /// Of the calls on a simulation of the routines.
     Routines(routines::Slip),
 }
@@ -95,6 +100,15 @@ impl Slip {
         Slip::ReplayBehindAnswers,
     ];
 
+    /// Of the call that writes a run.
+    pub const OF_WRITINGS: [Slip; 5] = [
+        Slip::WriteNumber,
+        Slip::WriteLength,
+        Slip::WriteText,
+        Slip::WriteBehindText,
+        Slip::WriteBufferOfRefused,
+    ];
+
     /// Whether the slip is in memory that the typed functions don't hand out, or in lists that they don't hand in.
     pub fn is_behind(self) -> bool {
         let behind = [
@@ -104,6 +118,8 @@ impl Slip {
             Slip::ReadBehindTimes,
             Slip::ReplayStateOfRefusedSizes,
             Slip::ReplayBehindAnswers,
+            Slip::WriteBehindText,
+            Slip::WriteBufferOfRefused,
         ];
         behind.contains(&self)
     }
@@ -163,6 +179,7 @@ extern "C" {
         answers: *mut u8,
         answers_len: usize,
     ) -> Report;
+    fn __real_psic_write(list: *const u8, list_len: usize, text: *mut u8, text_len: usize) -> u64;
 }
 
 /// Flips a bit of the last core's box priority.
@@ -357,5 +374,28 @@ unsafe extern "C" fn __wrap_psic_replay(
             _ => {}
         }
         report
+    }
+}
+
+#[no_mangle]
+unsafe extern "C" fn __wrap_psic_write(
+    list: *const u8,
+    list_len: usize,
+    text: *mut u8,
+    text_len: usize,
+) -> u64 {
+    // SAFETY: the arguments are passed on as they came; what is altered lies within the buffer, by its length and the text's.
+    unsafe {
+        let answer = __real_psic_write(list, list_len, text, text_len);
+        let (accepted, length) = (answer & 0xff == 0, (answer >> 8) as usize);
+        match SLIP.get() {
+            Some(Slip::WriteNumber) if answer == 15 => return 255,
+            Some(Slip::WriteLength) if accepted => return answer - 256,
+            Some(Slip::WriteText) if accepted => *text.add(length - 2) ^= 1,
+            Some(Slip::WriteBehindText) if accepted && length < text_len => *text.add(length) = 0,
+            Some(Slip::WriteBufferOfRefused) if !accepted && text_len > 0 => *text = 0,
+            _ => {}
+        }
+        answer
     }
 }

@@ -1,0 +1,1 @@
+// What holds of every written recording, proved of the definitions. No code; the theorems are in proofs/.
