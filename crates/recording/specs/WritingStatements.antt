@@ -8,13 +8,15 @@
 --   WrittenBounded        how much a host has to lend at most
 --   WriteRefusalsExact    15 exactly when the request says, 255 exactly for a list that isn't whole commands
 --   WriteTells            what the call leaves in the buffer, and that it is read back
+--   WriteThenRead         the two calls for hosts, one after the other: what the one has written the other reads back
 use Prim.Native.Nat.{ℕ, _+_, _*_, _%_, _^_, _<_, _≤_}
 use mathlib.Core.Path.{_≡_}
 use mathlib.Core.Logic.{_↔_, _≢_}
 use mathlib.Core.List.{List, [], _∷_, List·Memᴰ}
 use mathlib.Core.Bool.{true}
 use lib.ListN.{length, getD, take, drop}
-use Rattle.lists.specs.Rows.{tabulated}
+use lib.Seq.{sets}
+use Rattle.lists.specs.Rows.{joined, tabulated}
 use Rattle.model.specs.declared.SourceId.{SourceId}
 use Rattle.model.specs.declared.CoreId.{CoreId}
 use Rattle.model.specs.declared.SourceAction.{SourceAction}
@@ -23,7 +25,7 @@ use Rattle.model.specs.declared.CoreAction.{CoreAction}
 use Rattle.model.specs.declared.CoreAction.the-variants.{SetCorePriority}
 use Rattle.model.specs.declared.Command.{Command}
 use Rattle.model.specs.declared.Command.the-variants.{OnSource, OnCore}
-use Rattle.layout.specs.Bytes.{commandSize, commandsIn, numberIn}
+use Rattle.layout.specs.Bytes.{commandSize, commandBytes, commandsIn, numberIn}
 use Rattle.recording.specs.declared.Signal.the-variants.{Core, Arg, Prio}
 use Rattle.recording.specs.Words.{all}
 use Rattle.recording.specs.Values.{numeral}
@@ -32,7 +34,7 @@ use Rattle.recording.specs.Stamps.{maxCommands}
 use Rattle.recording.specs.Reading.{readingWith, reading, timesOf}
 use Rattle.recording.specs.Replay.{replayed}
 use Rattle.recording.specs.Writing.{digits, definitionText, written, writable}
-use Rattle.recording.specs.Calls.{WriteCall, lengthIn, writeCall}
+use Rattle.recording.specs.Calls.{reportWith, readCallOf, fitsRead, readCall, WriteCall, lengthIn, writeCall}
 
 -- ---- digits
 
@@ -130,3 +132,15 @@ WriteTells =
     let call = writeCall list text in
     (numberIn (call .result) ≡ 0 → TellsWriting list text call) ×
     (numberIn (call .result) ≢ 0 → (call .text ≡ text) × (lengthIn (call .result) ≡ 0)) × (length (call .text) ≡ length text)
+
+-- What the one call has written is lent to the other, with buffers that have room: it answers no fault, as many commands, and the text's
+-- length, and writes the list's commands, and 2 i as the time of command i.
+abbrev pub WriteThenRead : Type 0
+WriteThenRead =
+    (list text commands times : List ℕ) →
+    let wrote = writeCall list text in
+    let t = take (lengthIn (wrote .result)) (wrote .text) in
+    let cs = commandsIn list in
+    numberIn (wrote .result) ≡ 0 → fitsRead t commands times ≡ true →
+    readCall t commands times ≡ readCallOf (reportWith 0 (length cs) (lengthIn (wrote .result))) (sets commands 0 (joined commandBytes cs))
+    (sets times 0 (tabulated (length cs) (λ i. 2 * i)))

@@ -1,4 +1,5 @@
--- What the call that writes leaves in the lent buffer, and that it is read back (`WriteTells`). Assumes nothing.
+-- What the call that writes leaves in the lent buffer, and that it is read back (`WriteTells`), also by the call that reads
+-- (`WriteThenRead`). Assumes nothing.
 use Prim.Native.Nat.{ℕ, _+_, _*_, _<_}
 use mathlib.Core.Path.{_≡_, refl, sym, ap, _∙_, subst}
 use mathlib.Core.Logic.{_≢_}
@@ -11,8 +12,8 @@ use Rattle.layout.specs.Bytes.{commandsIn, numberIn}
 use Rattle.recording.specs.Declarations.{narrow}
 use Rattle.recording.specs.Reading.{reading, timesOf}
 use Rattle.recording.specs.Writing.{written}
-use Rattle.recording.specs.Calls.{WriteCall, writeCallOf, lengthIn, writtenInto, writeCall}
-use Rattle.recording.specs.WritingStatements.{TellsWriting, WriteTells}
+use Rattle.recording.specs.Calls.{readCall, WriteCall, writeCallOf, lengthIn, writtenInto, writeCall}
+use Rattle.recording.specs.WritingStatements.{TellsWriting, WriteTells, WriteThenRead}
 use Rattle.writings.proofs.RoundTrip.{written-is-read, written-times}
 use Rattle.writings.proofs.Refusals.{Accepted, Outcome, unread, refused, accepted, number-of, outcome}
 
@@ -68,3 +69,9 @@ write-tells list text = go (outcome list text)
     go (unread n e) = subst (Tells list text) (sym e) (refused-tells list text 255 (omega arith) (omega arith))
     go (refused n u e) = subst (Tells list text) (sym e) (refused-tells list text 15 (omega arith) (omega arith))
     go (accepted n a e) = subst (Tells list text) (sym e) (accepted-tells list text a)
+
+pub write-then-read : WriteThenRead
+unfolding readCall
+write-then-read list text commands times e fits =
+    let told = write-tells list text .0 e in
+    rw (fits, told .read-back, told .times)
