@@ -16,6 +16,7 @@ use lib.ListN.{length, getD, length-map}
 use lib.Dec.{leb, eqb}
 use borrow.Author.Tests.{leb-true, ltb-true, eqb-true}
 use Rattle.lists.proofs.Bools.{and-l, and-r}
+use Rattle.layout.specs.Bytes.{oneCommand}
 use Rattle.layout.specs.Commands.{commandOf}
 use Rattle.recording.specs.declared.Place.{Place}
 use Rattle.recording.specs.declared.Place.the-variants.{Definition, SkipDefinition, Wire, Width, Code, Name, VarEnd, DefinitionsEnd, Body}
@@ -33,7 +34,7 @@ use Rattle.recording.specs.Values.{valueOf, vectorOf}
 use Rattle.recording.specs.Records.{start, variableWith, variableOf, withVariableOf, variable, at, withUp, withTaken, withValue, declaring}
 use Rattle.recording.specs.Records.{refused, only, readWith}
 use Rattle.recording.specs.Declarations.{narrow, widthIn, fits, declared, signalOf, allDeclared, hasCode, declares}
-use Rattle.recording.specs.Stamps.{maxCommands, level, rises, isHigh, isReadable, strobeOf, named, endStamp, endOpenStamp}
+use Rattle.recording.specs.Stamps.{maxCommands, level, rises, isHigh, isReadable, strobeOf, endStamp, endOpenStamp}
 use Rattle.recording.specs.Reading.{isGood, outOfPlace, isSkipped, readDefinition, readWidth, readCode, readName, isVector, isScalar}
 use Rattle.recording.specs.Reading.{readChange, vectorSignal, readVectorCode, startsTime, isTime, timeOf, isLater, openStamp, andThen}
 use Rattle.recording.specs.Reading.{readTime, isDump, readBody, readBlock, readAt, readWord}
@@ -266,7 +267,7 @@ module _ (r : Reader) (w : Word) (h : Fit r) where
 
 -- ---- eight numbers name a command
 
-pub named-one : (number target p : ℕ) → number < 8 → length (named (commandOf number target p)) ≡ 1
+pub named-one : (number target p : ℕ) → number < 8 → length (oneCommand (commandOf number target p)) ≡ 1
 unfolding commandOf
 named-one zero target p h = refl
 named-one (suc zero) target p h = refl

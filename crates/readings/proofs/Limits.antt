@@ -11,12 +11,13 @@ use lib.ListN.{length, length-append}
 use Rattle.lists.proofs.Bools.{Flag, on, off, flag}
 use Rattle.model.specs.declared.Decoded.{Decoded}
 use Rattle.model.specs.declared.Decoded.the-variants.{Unknown, Known}
+use Rattle.layout.specs.Bytes.{oneCommand}
 use Rattle.layout.specs.Commands.{commandOf}
 use Rattle.recording.specs.declared.Reader.{Reader}
 use Rattle.recording.specs.declared.Strobe.{Strobe}
 use Rattle.recording.specs.Words.{separator, Word, closed, cut, words}
 use Rattle.recording.specs.Records.{start}
-use Rattle.recording.specs.Stamps.{named, commandsOf}
+use Rattle.recording.specs.Stamps.{commandsOf}
 use Rattle.recording.specs.Reading.{isGood, isBody, startsTime, readWord, finish, Progress, progress, advance, readWords, finished}
 use Rattle.recording.specs.Reading.{answered, reading}
 use Rattle.recording.specs.Faults.{takenAt}
@@ -29,7 +30,7 @@ use Rattle.readings.proofs.Final.{bad-word, bad-finish}
 abbrev pub opens : Reader → ℕ
 opens r = cond (r .stamp .opened) 1 0
 
-named-most : (d : Decoded) → length (named d) ≤ 1
+named-most : (d : Decoded) → length (oneCommand d) ≤ 1
 named-most Unknown = omega arith
 named-most (Known c) = omega arith
 
@@ -37,7 +38,7 @@ pub strobe-most : (s : Strobe) → length (commandsOf s) ≤ 1
 unfolding commandsOf
 strobe-most s = go (s .given)
   where
-    go : (b : Bool) → length (cond b (named (commandOf (s .number) (s .target) (s .level))) []) ≤ 1
+    go : (b : Bool) → length (cond b (oneCommand (commandOf (s .number) (s .target) (s .level))) []) ≤ 1
     go true = named-most (commandOf (s .number) (s .target) (s .level))
     go false = omega arith
 

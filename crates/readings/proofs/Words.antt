@@ -13,14 +13,14 @@ use lib.Seq.{ext-getD}
 use lib.Dec.{ltb}
 use borrow.Author.Tests.{ltb-true, ltb-false}
 use Rattle.lists.proofs.Bools.{clash, Flag, on, off, flag}
-use Rattle.recording.specs.Words.{separator, Word, wordAt, closed, cut}
+use Rattle.recording.specs.Words.{separator, Word, wordWith, closed, cut}
 use Rattle.recording.specs.Statements.{Run, Rising, none, one, more, WordsExact}
 
 -- ---- a word that ends
 
 -- the word under way, if it has a byte, or one of the words after it
 data Closed (end : ℕ) (w : List ℕ) (xs : List Word) (v : Word) : Type 0 where
-  this : 0 < length w → v ≡ wordAt (end - length w) w → Closed end w xs v
+  this : 0 < length w → v ≡ wordWith (end - length w) w → Closed end w xs v
   later : List·Memᴰ v xs → Closed end w xs v
 
 closed-out : (end : ℕ) (w : List ℕ) (xs : List Word) (v : Word) → List·Memᴰ v (closed end w xs) → Closed end w xs v
@@ -28,7 +28,7 @@ closed-out end [] xs v m = later m
 closed-out end (b ∷ bs) xs v (here e) = this (omega arith) e
 closed-out end (b ∷ bs) xs v (there m) = later m
 
-closed-this : (end : ℕ) (w : List ℕ) (xs : List Word) (v : Word) → 0 < length w → v ≡ wordAt (end - length w) w →
+closed-this : (end : ℕ) (w : List ℕ) (xs : List Word) (v : Word) → 0 < length w → v ≡ wordWith (end - length w) w →
     List·Memᴰ v (closed end w xs)
 closed-this end [] xs v h e = absurd (not-suc-le-zero h)
 closed-this end (b ∷ bs) xs v h e = here e
@@ -95,7 +95,7 @@ Stops T at = at < length T → separator (getD T at 0) ≡ true
 
 module _ (T : List ℕ) (o at : ℕ) (w t : List ℕ) (s : State T o at w t) (stops : Stops T at) where
   -- the word under way is a run
-  run : 0 < length w → Run T (wordAt o w)
+  run : 0 < length w → Run T (wordWith o w)
   unfolding Stops
   run h =
       record {
@@ -143,12 +143,12 @@ module _ (T : List ℕ) (o at : ℕ) (w t : List ℕ) (s : State T o at w t) (st
         go (off e) (off f) =
             omega (arith, ltb-false (length (v .bytes)) (length w) e, ltb-false (length w) (length (v .bytes)) f)
 
-    same-word : v ≡ wordAt o w
+    same-word : v ≡ wordWith o w
     same-word =
         let bytes : v .bytes ≡ w =
         ext-getD 0 (v .bytes) w ends-here
         (λ i h. u .here i h ∙ same-byte T (omega (arith, begins-here)) ∙ sym (s .done i (omega (arith, ends-here)))) in
-        λ k. wordAt (begins-here k) (bytes k)
+        λ k. wordWith (begins-here k) (bytes k)
 
 stops-at-end : (T : List ℕ) (o at : ℕ) (w : List ℕ) → State T o at w [] → Stops T at
 unfolding Stops
@@ -160,9 +160,9 @@ stops-at-separator T o at w b t s e l = ap separator (sym (next-byte T o at w b 
 
 -- the word under way stands where it began
 this-run : (T : List ℕ) (o at : ℕ) (w t : List ℕ) → State T o at w t → Stops T at → (v : Word) → 0 < length w →
-    v ≡ wordAt (at - length w) w → Run T v × (o ≤ v .at)
+    v ≡ wordWith (at - length w) w → Run T v × (o ≤ v .at)
 this-run T o at w t s stops v h e =
-    let f : v ≡ wordAt o w = e ∙ ap (λ (k : ℕ). wordAt k w) (omega (arith, s .from)) in
+    let f : v ≡ wordWith o w = e ∙ ap (λ (k : ℕ). wordWith k w) (omega (arith, s .from)) in
     rw f (run T o at w t s stops h, omega arith)
 
 -- ---- each word is a run, and stands where the word under way began or later
@@ -196,8 +196,8 @@ complete : (T : List ℕ) (o at : ℕ) (w t : List ℕ) → State T o at w t →
 unfolding cut
 complete T o at w [] s v u low =
     let high : v .at < at = omega (arith, u .some-byte, u .inside, s .whole) in
-    let e : v ≡ wordAt o w = same-word T o at w [] s (stops-at-end T o at w s) v u low high in
-    closed-this at w [] v (omega (arith, s .from)) (e ∙ ap (λ (k : ℕ). wordAt k w) (omega (arith, s .from)))
+    let e : v ≡ wordWith o w = same-word T o at w [] s (stops-at-end T o at w s) v u low high in
+    closed-this at w [] v (omega (arith, s .from)) (e ∙ ap (λ (k : ℕ). wordWith k w) (omega (arith, s .from)))
 complete T o at w (b ∷ t) s v u low =
     go (separator b) refl (λ e. complete T (suc at) (suc at) [] t (after-separator T o at w b t s e) v u)
     (λ e. complete T o (suc at) (w ++ (b ∷ [])) t (after-byte T o at w b t s e) v u low)
@@ -206,8 +206,8 @@ complete T o at w (b ∷ t) s v u low =
         Flag (ltb at (v .at)) → List·Memᴰ v (closed at w (cut (suc at) [] t))
     closing e next (on f) g =
         let high : v .at < at = ltb-true (v .at) at f in
-        let x : v ≡ wordAt o w = same-word T o at w (b ∷ t) s (stops-at-separator T o at w b t s e) v u low high in
-        closed-this at w (cut (suc at) [] t) v (omega (arith, s .from)) (x ∙ ap (λ (k : ℕ). wordAt k w) (omega (arith, s .from)))
+        let x : v ≡ wordWith o w = same-word T o at w (b ∷ t) s (stops-at-separator T o at w b t s e) v u low high in
+        closed-this at w (cut (suc at) [] t) v (omega (arith, s .from)) (x ∙ ap (λ (k : ℕ). wordWith k w) (omega (arith, s .from)))
     closing e next (off f) (on g) = closed-later at w (cut (suc at) [] t) v (next (ltb-true at (v .at) g))
     closing e next (off f) (off g) =
         clash e
@@ -232,7 +232,7 @@ rising-cons v (w ∷ ws) h r = more v w ws (h w (here refl)) r
 rising-closed : (end : ℕ) (w : List ℕ) (ws : List Word) → ((v : Word) → List·Memᴰ v ws → end < v .at) → Rising ws →
     Rising (closed end w ws)
 rising-closed end [] ws h r = r
-rising-closed end (b ∷ bs) ws h r = rising-cons (wordAt (end - suc (length bs)) (b ∷ bs)) ws (λ v m. omega (arith, h v m)) r
+rising-closed end (b ∷ bs) ws h r = rising-cons (wordWith (end - suc (length bs)) (b ∷ bs)) ws (λ v m. omega (arith, h v m)) r
 
 rising : (T : List ℕ) (o at : ℕ) (w t : List ℕ) → State T o at w t → Rising (cut at w t)
 unfolding cut

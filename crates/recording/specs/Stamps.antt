@@ -6,12 +6,11 @@
 --   endOpenStamp at r    the same if a time was read; a text without a time has no stamp
 use Prim.Native.Nat.{ℕ, suc}
 use mathlib.Core.Bool.{Bool, true, not, _&&_, _||_, cond}
-use mathlib.Core.List.{List, [], _∷_}
+use mathlib.Core.List.{List, []}
 use lib.Dec.{leb, eqb}
 use Rattle.model.specs.declared.Command.{Command}
-use Rattle.model.specs.declared.Decoded.{Decoded}
-use Rattle.model.specs.declared.Decoded.the-variants.{Unknown, Known}
 use Rattle.layout.specs.Commands.{commandOf}
+use Rattle.layout.specs.Bytes.{oneCommand}
 use Rattle.recording.specs.declared.Signal.the-variants.{Stb, Cmd, Core, Arg, Prio}
 use Rattle.recording.specs.declared.Value.{Value}
 use Rattle.recording.specs.declared.Reader.{Reader}
@@ -83,14 +82,9 @@ strobeOf r =
     strobeWith true ((commandValue r) .number) ((targetValue r) .number)
     (cond (usesPriority ((commandValue r) .number)) ((levelValue r) .number) 0)
 
--- What three numbers name, as a list of at most one command. cmd has three bits, so a strobe's number is 0 to 7 and names one.
-abbrev pub named : Decoded → List Command
-named Unknown = []
-named (Known c) = c ∷ []
-
--- The command of a strobe, none if there is none.
+-- The command of a strobe, none if there is none. cmd has three bits, so a strobe's number is 0 to 7 and names one.
 unfoldable pub commandsOf : Strobe → List Command
-commandsOf s = cond (s .given) (named (commandOf (s .number) (s .target) (s .level))) []
+commandsOf s = cond (s .given) (oneCommand (commandOf (s .number) (s .target) (s .level))) []
 
 -- ---- the end of a stamp
 

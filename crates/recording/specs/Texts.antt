@@ -17,7 +17,7 @@ use Rattle.model.specs.declared.CoreAction.the-variants.{Claim}
 use Rattle.model.specs.Records.{sourceId, coreId}
 use Rattle.recording.specs.declared.Place.the-variants.{Body}
 use Rattle.recording.specs.declared.Reader.{Reader}
-use Rattle.recording.specs.Words.{bytesOf, Word, wordAt, words}
+use Rattle.recording.specs.Words.{bytesOf, Word, wordWith, words}
 use Rattle.recording.specs.Values.{value, unknown, vectorWith}
 use Rattle.recording.specs.Records.{variableWith, variablesWith, pendingWith, stampWith, faultWith, readerWith, withTaken}
 use Rattle.recording.specs.Reading.{progress, readWords, finished, Reading, readingWith, answered}
@@ -202,7 +202,7 @@ held (m ∷ ms) = m .hold ∷ held ms
 abbrev pub heldAt : Meeting → List Bool
 heldAt m =
     let before = bytesOf (m .before) in
-    conditions ((readWords (progress full []) (words before)) .reader) (wordAt (length before) (bytesOf (m .word)))
+    conditions ((readWords (progress full []) (words before)) .reader) (wordWith (length before) (bytesOf (m .word)))
 
 abbrev pub allHeldAt : List Meeting → List (List Bool)
 allHeldAt [] = []

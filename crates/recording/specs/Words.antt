@@ -49,13 +49,13 @@ pub record Word : Type 0 where
   pub at : ℕ
   pub bytes : List ℕ
 
-abbrev pub wordAt : ℕ → List ℕ → Word
-wordAt at bytes = record { at = at; bytes = bytes }
+abbrev pub wordWith : ℕ → List ℕ → Word
+wordWith at bytes = record { at = at; bytes = bytes }
 
 -- The bytes w, which end before an offset, are a word unless there are none.
 abbrev pub closed : ℕ → List ℕ → List Word → List Word
 closed end [] ws = ws
-closed end (b ∷ bs) ws = wordAt (end - length (b ∷ bs)) (b ∷ bs) ∷ ws
+closed end (b ∷ bs) ws = wordWith (end - length (b ∷ bs)) (b ∷ bs) ∷ ws
 
 -- From an offset on: w are the bytes of the word under way, then the bytes to come.
 unfoldable pub cut : ℕ → List ℕ → List ℕ → List Word

@@ -14,13 +14,14 @@ use borrow.Author.Tests.{lt-ltb, le-ltb, not-true, not-false}
 use Rattle.model.specs.declared.Command.{Command}
 use Rattle.model.specs.declared.Decoded.{Decoded}
 use Rattle.model.specs.declared.Decoded.the-variants.{Unknown, Known}
+use Rattle.layout.specs.Bytes.{oneCommand}
 use Rattle.layout.specs.Commands.{commandOf}
 use Rattle.recording.specs.declared.Reader.{Reader}
 use Rattle.recording.specs.declared.Strobe.{Strobe}
 use Rattle.recording.specs.declared.Read.{Read}
 use Rattle.recording.specs.Words.{Word, cut}
 use Rattle.recording.specs.Records.{start}
-use Rattle.recording.specs.Stamps.{named, commandsOf}
+use Rattle.recording.specs.Stamps.{commandsOf}
 use Rattle.recording.specs.Reading.{isGood, finish, Progress, progress, advance, readWords, finished, readingWith, answered, reading}
 use Rattle.recording.specs.Reading.{timesAt, timesFrom, timesOf}
 use Rattle.vcd_reader.specs.Advances.{wordsFrom, Advances}
@@ -29,11 +30,11 @@ use Rattle.readings.proofs.Cutting.{readWords-commands}
 use Rattle.recording_calls.specs.Remaining.{Remaining, remainingWith, toEnd, remaining, left, before, Continues}
 
 module _ (s : Strobe) where
-  pub none-given : not (s .given) ≡ true → named Unknown ≡ commandsOf s
+  pub none-given : not (s .given) ≡ true → oneCommand Unknown ≡ commandsOf s
   unfolding commandsOf
   none-given e = rw (not-true (s .given) e)
 
-  pub some-given : (d : Decoded) → not (s .given) ≡ false → d ≡ commandOf (s .number) (s .target) (s .level) → named d ≡ commandsOf s
+  pub some-given : (d : Decoded) → not (s .given) ≡ false → d ≡ commandOf (s .number) (s .target) (s .level) → oneCommand d ≡ commandsOf s
   unfolding commandsOf
   some-given d e ed = rw (not-false (s .given) e, ed)
 
@@ -110,12 +111,12 @@ module _ (t : List ℕ) (at : ℕ) (r : Reader) (a : Advanced) where
   abbrev pub after : Remaining
   after = left (ltb at (length t)) t (a .end) (a .reader)
 
-  module _ (h : Continues t at r a) (d : Decoded) (e : named d ≡ commandsOf (a .strobe)) where
+  module _ (h : Continues t at r a) (d : Decoded) (e : oneCommand d ≡ commandsOf (a .strobe)) where
     abbrev with-commands : List Command → Remaining
     with-commands cs = remainingWith (cs ++ after .commands) (map (λ (c : Command). a .time) cs ++ after .times) (after .reader)
 
-    by : {x : Decoded} → d ≡ x → (more : Bool) → more ≡ true → left more t at r ≡ with-commands (named x)
-    by f more on = ap (λ (b : Bool). left b t at r) on ∙ h .reads ∙ ap with-commands (sym e ∙ ap named f)
+    by : {x : Decoded} → d ≡ x → (more : Bool) → more ≡ true → left more t at r ≡ with-commands (oneCommand x)
+    by f more on = ap (λ (b : Bool). left b t at r) on ∙ h .reads ∙ ap with-commands (sym e ∙ ap oneCommand f)
 
     pub next-none : d ≡ Unknown → (more : Bool) → more ≡ true → left more t at r ≡ after
     next-none f more on = by f more on

@@ -5,7 +5,8 @@ ghost use Prim.Native.Nat.{_≤_, min};
 ghost use mathlib.Core.Path.{_≡_};
 ghost use mathlib.Core.Bool.{true, cond};
 ghost use lib.ListN.{length};
-ghost use Rattle.recording.specs.Stamps.{maxCommands, named, commandsOf};
+ghost use Rattle.layout.specs.Bytes.{oneCommand};
+ghost use Rattle.recording.specs.Stamps.{maxCommands, commandsOf};
 ghost use Rattle.recording.specs.Reading.{isGood};
 ghost use Rattle.recording.specs.Calls.{reportWith, noRoom, readCall, fitsRead, DoesRead, replayCall, fitsReplay, DoesReplay};
 ghost use Rattle.recording_calls.specs.Remaining.{Continues};
@@ -62,7 +63,7 @@ fn room(length: usize) -> usize
 
 // The command of a strobe, none if there is none.
 fn taken(s: Strobe) -> Decoded
-    ensures { λ d. ⌜ named d ≡ commandsOf s ⌝ }
+    ensures { λ d. ⌜ oneCommand d ≡ commandsOf s ⌝ }
 {
     if !s.given {
         return Decoded::Unknown;

@@ -90,9 +90,9 @@ only-number {s} {c} j k (rj, fj) (rk, fk) =
 -- ---- the lines of checks that have passed
 
 -- a source's id is 1 to n, a core's number below m
-abbrev Names : Controller → Command → Type 0
-Names s (OnSource id a) = (1 ≤ id .0) × (id .0 ≤ s .n)
-Names s (OnCore k a) = k .0 < s .m
+abbrev NamesSubject : Controller → Command → Type 0
+NamesSubject s (OnSource id a) = (1 ≤ id .0) × (id .0 ≤ s .n)
+NamesSubject s (OnCore k a) = k .0 < s .m
 
 after-sound : {s : Controller} {c : Command} → WellFormed s → (j : ℕ) → Row s c j → 2 ≤ turn j
 after-sound w _ (not-sound h) = absurd (h w)
@@ -106,7 +106,7 @@ after-sound w _ (not-redelivered h) = omega arith
 after-sound w _ (not-completed h) = omega arith
 after-sound w _ (in-use h) = omega arith
 
-after-name : {s : Controller} {c : Command} → WellFormed s → Names s c → (j : ℕ) → Row s c j → 3 ≤ turn j
+after-name : {s : Controller} {c : Command} → WellFormed s → NamesSubject s c → (j : ℕ) → Row s c j → 3 ≤ turn j
 after-name w n _ (not-sound h) = absurd (h w)
 after-name w n _ (no-core h) = absurd (omega arith)
 after-name w n _ (no-source h) = absurd (h n)

@@ -24,7 +24,7 @@ use Rattle.recording.specs.declared.Variable.{Variable}
 use Rattle.recording.specs.declared.Variables.{Variables}
 use Rattle.recording.specs.declared.Vector.{Vector}
 use Rattle.recording.specs.declared.Reader.{Reader}
-use Rattle.recording.specs.Words.{separator, wordAt, all}
+use Rattle.recording.specs.Words.{separator, wordWith, all}
 use Rattle.recording.specs.Values.{isBit, isDefinite, bitOf, bitNumber, numeral, valueOf, vectorOf, codeOf}
 use Rattle.recording.specs.Records.{variable, variableOf, variableWith, withVariableOf, stampWith, withStamp, at, withVector, withUp}
 use Rattle.recording.specs.Records.{withTime, readWith, only}
@@ -102,7 +102,7 @@ module _ (vs : Variables) (code : ℕ) (v : Vector) (p : Placed) where
     where
       go : (next : Place) (r : Reader) (i : ℕ) (w : List ℕ) → r .variables ≡ vs → r .pending .vector ≡ v →
           vectorSignal r w ≡ some s → leb (v .length) ((variableOf vs s) .width) ≡ true →
-          readVectorCode next (vectorSignal r w) r (wordAt i w) ≡ withVariables (withVariableOf vs s x) (at next r)
+          readVectorCode next (vectorSignal r w) r (wordWith i w) ≡ withVariables (withVariableOf vs s x) (at next r)
       go next r i w er ev es el =
           let el′ : leb (r .pending .vector .length) ((variableOf (r .variables) s) .width) ≡ true = rw (er, ev) el in
           rw (es, ex, ← er, ← ev, el′)
@@ -206,8 +206,8 @@ codePlace false = BodyCode
 module _ (r : Reader) (i : ℕ) (u : List ℕ) (good : r .fault .number ≡ 0) where
   read-code :
       (block : Bool) →
-      readWord (at (codePlace block) r) (wordAt i u) ≡
-      only (readVectorCode (changePlace block) (vectorSignal (at (codePlace block) r) u) (at (codePlace block) r) (wordAt i u))
+      readWord (at (codePlace block) r) (wordWith i u) ≡
+      only (readVectorCode (changePlace block) (vectorSignal (at (codePlace block) r) u) (at (codePlace block) r) (wordWith i u))
   unfolding readWord readAt
   read-code true = rw (eq-eqb _ _ good)
   read-code false = rw (eq-eqb _ _ good)
@@ -215,7 +215,7 @@ module _ (r : Reader) (i : ℕ) (u : List ℕ) (good : r .fault .number ≡ 0) w
   -- a word that begins with neither # nor $
   read-change :
       (block : Bool) → r .place ≡ changePlace block → (b : ℕ) → eqb b 35 ≡ false → eqb b 36 ≡ false →
-      readWord r (wordAt i (b ∷ u)) ≡ only (readChange (changePlace block) (codePlace block) r (wordAt i (b ∷ u)))
+      readWord r (wordWith i (b ∷ u)) ≡ only (readChange (changePlace block) (codePlace block) r (wordWith i (b ∷ u)))
   unfolding readWord readAt readBody readBlock
   read-change true pl b no-hash no-dollar = rw (eq-eqb _ _ good, pl, no-dollar)
   read-change false pl b no-hash no-dollar = rw (eq-eqb _ _ good, pl, no-hash, no-dollar)
@@ -223,20 +223,20 @@ module _ (r : Reader) (i : ℕ) (u : List ℕ) (good : r .fault .number ≡ 0) w
   module _ (block : Bool) (pl : r .place ≡ changePlace block) where
     read-vector :
         (b : ℕ) → isBinary b ≡ true → isVector (98 ∷ u) ≡ true →
-        readWord r (wordAt i (b ∷ u)) ≡ only (at (codePlace block) (withVector (vectorOf u) r))
+        readWord r (wordWith i (b ∷ u)) ≡ only (at (codePlace block) (withVector (vectorOf u) r))
     unfolding readChange
     read-vector b k e =
         read-change block pl b (other-byte isBinary b 35 k refl) (other-byte isBinary b 36 k refl) ∙ rw (k, e)
 
     read-level :
         (b : ℕ) → isBit b ≡ true → hasCode r u Stb ≡ true →
-        readWord r (wordAt i (b ∷ u)) ≡ only (withVariables (withLevel (r .variables) b) (at (changePlace block) r))
+        readWord r (wordWith i (b ∷ u)) ≡ only (withVariables (withLevel (r .variables) b) (at (changePlace block) r))
     unfolding readChange
     read-level b e k =
         read-change block pl b (other-byte isBit b 35 e refl) (other-byte isBit b 36 e refl)
         ∙ rw (other-byte isBit b 98 e refl, other-byte isBit b 66 e refl, e, k)
 
-  read-hash : r .place ≡ Body → readWord r (wordAt i (35 ∷ u)) ≡ readTime r (wordAt i (35 ∷ u))
+  read-hash : r .place ≡ Body → readWord r (wordWith i (35 ∷ u)) ≡ readTime r (wordWith i (35 ∷ u))
   unfolding readWord readAt readBody
   read-hash pl = rw (eq-eqb _ _ good, pl)
 
@@ -248,13 +248,13 @@ module _ (r : Reader) (i : ℕ) (w : List ℕ) (time : ℕ) (good : r .fault .nu
 
   time-quiet :
       (eqb (r .variables .stb .value .number) 1 && not (r .stamp .up)) ≡ false →
-      readTime r (wordAt i w) ≡ only (withTime time (withUp (eqb (r .variables .stb .value .number) 1) r))
+      readTime r (wordWith i w) ≡ only (withTime time (withUp (eqb (r .variables .stb .value .number) 1) r))
   unfolding readTime andThen endOpenStamp endStamp openStamp
   time-quiet q = rw (opened, known, q, eq-eqb _ _ good, e, later-word, et)
 
   time-taken :
       r .variables .stb .value .number ≡ 1 → r .stamp .up ≡ false → isReadable r ≡ true → r .taken < 65535 →
-      readTime r (wordAt i w) ≡ readWith (afterCommand r time) (strobeOf r)
+      readTime r (wordWith i w) ≡ readWith (afterCommand r time) (strobeOf r)
   unfolding readTime andThen endOpenStamp endStamp openStamp isReadable strobeOf
   time-taken n up readable room =
       rw (opened, known, eq-eqb _ _ n, up, readable, lt-leb 65535 (r .taken) room, eq-eqb _ _ good, e, later-word, et)
@@ -294,14 +294,14 @@ module _ (t : List ℕ) (i : ℕ) (h : i < length t) where
 
     follows-first :
         (end : ℕ) (r r′ : Reader) → end ≡ i + 1 + length (wordFrom t (i + 1)) →
-        readWord r (wordAt i (b ∷ wordFrom t (i + 1))) ≡ only r′ → Follows t i r end r′
+        readWord r (wordWith i (b ∷ wordFrom t (i + 1))) ≡ only r′ → Follows t i r end r′
     follows-first end r r′ e g =
-        follows-word t i h starts-word end (first-end end e) r r′ (ap (λ (w : List ℕ). readWord r (wordAt i w)) word-first ∙ g)
+        follows-word t i h starts-word end (first-end end e) r r′ (ap (λ (w : List ℕ). readWord r (wordWith i w)) word-first ∙ g)
 
     -- a word, and the separators after it
     follows-skip :
         (end end′ : ℕ) (r r′ : Reader) → end ≡ i + 1 + length (wordFrom t (i + 1)) → Skips t end end′ →
-        readWord r (wordAt i (b ∷ wordFrom t (i + 1))) ≡ only r′ → Follows t i r end′ r′
+        readWord r (wordWith i (b ∷ wordFrom t (i + 1))) ≡ only r′ → Follows t i r end′ r′
     follows-skip end end′ r r′ e s g =
         follows-then t (follows-first end r r′ e g) (follows-skips t end end′ r′ s)
 
@@ -355,10 +355,10 @@ module _ (t : List ℕ) (i : ℕ) (h : i < length t) where
           ∙ time-quiet r i (35 ∷ wordFrom t (i + 1)) (a .time) good is-time (there .time whole) o (q .known whole)
           (q .later whole) (q .quiet whole))
 
-      pub takes-command : Takes r (a .time) → readWith (afterCommand r (a .time)) (strobeOf r) ≡ readWord r (wordAt i (wordFrom t i))
+      pub takes-command : Takes r (a .time) → readWith (afterCommand r (a .time)) (strobeOf r) ≡ readWord r (wordWith i (wordFrom t i))
       takes-command k =
           sym
-          (ap (λ (w : List ℕ). readWord r (wordAt i w)) (word-first 35 eb (omega arith))
+          (ap (λ (w : List ℕ). readWord r (wordWith i w)) (word-first 35 eb (omega arith))
           ∙ read-hash r i (wordFrom t (i + 1)) good pl
           ∙ k .gives good i (35 ∷ wordFrom t (i + 1)) is-time (there .time whole))
 

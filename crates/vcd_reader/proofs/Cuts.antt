@@ -12,7 +12,7 @@ use native.Mathlib.Numerals.{add-one}
 use native.Mathlib.Omega.{arith}
 use borrow.Author.Tests.{lt-ltb}
 use Rattle.lists.proofs.Bools.{and-in, Flag, on, off, flag}
-use Rattle.recording.specs.Words.{separator, wordAt, closed, cut}
+use Rattle.recording.specs.Words.{separator, wordWith, closed, cut}
 use Rattle.vcd_words.specs.Partial.{run}
 use Rattle.vcd_words.proofs.Spells.{small, head-small, tail-small}
 
@@ -52,13 +52,13 @@ module _ (t : List ℕ) (i : ℕ) (h : i < length t) (e : separator (getD t i 0)
 
   pub cut-word :
       (end : ℕ) → end ≡ i + length (run (drop i t)) →
-      cut i [] (drop i t) ≡ wordAt i (run (drop i t)) ∷ cut end [] (drop end t)
+      cut i [] (drop i t) ≡ wordWith i (run (drop i t)) ∷ cut end [] (drop end t)
   cut-word end f =
       cut-run i [] (drop i t)
       ∙ rw (← f, drop-drop, ← f) (go (run (drop i t)) run-some f)
     where
       go : (w : List ℕ) → 0 < length w → end ≡ i + length w →
-          closed end w (cut end [] (drop end t)) ≡ wordAt i w ∷ cut end [] (drop end t)
+          closed end w (cut end [] (drop end t)) ≡ wordWith i w ∷ cut end [] (drop end t)
       go [] some g = absurd (omega arith)
       go (b ∷ w) some g =
           let from : end - length (b ∷ w) ≡ i = omega arith in

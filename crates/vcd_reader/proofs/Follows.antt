@@ -13,7 +13,7 @@ use native.Mathlib.Omega.{arith}
 use Rattle.model.specs.declared.Command.{Command}
 use Rattle.recording.specs.declared.Reader.{Reader}
 use Rattle.recording.specs.declared.Read.{Read}
-use Rattle.recording.specs.Words.{separator, Word, wordAt}
+use Rattle.recording.specs.Words.{separator, Word, wordWith}
 use Rattle.recording.specs.Records.{noStrobe, only}
 use Rattle.recording.specs.Stamps.{commandsOf}
 use Rattle.recording.specs.Reading.{isGood, readWord, progress, advance, readWords, timesAt, timesFrom}
@@ -88,7 +88,7 @@ module _ (t : List ℕ) where
           some = run-some t i h e;
         }
 
-    pub follows-word : (r r′ : Reader) → readWord r (wordAt i (run (drop i t))) ≡ only r′ → Follows t i r end r′
+    pub follows-word : (r r′ : Reader) → readWord r (wordWith i (run (drop i t))) ≡ only r′ → Follows t i r end r′
     follows-word r r′ g =
         record {
           moves = omega (arith, word-moves);
@@ -98,7 +98,7 @@ module _ (t : List ℕ) where
         }
 
     pub advances-word :
-        (r : Reader) (a : Read) → a ≡ readWord r (wordAt i (run (drop i t))) →
+        (r : Reader) (a : Read) → a ≡ readWord r (wordWith i (run (drop i t))) →
         Advances t i r (advancedWith (a .reader) end (a .strobe) (r .stamp .time))
     unfolding readWords advance timesFrom
     advances-word r a g =

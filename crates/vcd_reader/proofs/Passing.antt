@@ -16,7 +16,7 @@ use Rattle.lists.proofs.Bools.{and-l, and-r, clash}
 use Rattle.recording.specs.declared.Place.{Place}
 use Rattle.recording.specs.declared.Place.the-variants.{Definition, SkipDefinition, Body, SkipBody, Block}
 use Rattle.recording.specs.declared.Reader.{Reader}
-use Rattle.recording.specs.Words.{separator, isText, bytesOf, wordAt}
+use Rattle.recording.specs.Words.{separator, isText, bytesOf, wordWith}
 use Rattle.recording.specs.Records.{at, only}
 use Rattle.recording.specs.Reading.{skipping, isSkipped, startsTime, isDump, readDefinition, readBody, readBlock, readAt, readWord}
 use Rattle.vcd_words.proofs.Spells.{same-eq}
@@ -33,32 +33,32 @@ use Rattle.vcd_reader.proofs.Reaching.{word-inside, word-starts}
 
 module _ (r : Reader) (i : ℕ) (w : List ℕ) (good : r .fault .number ≡ 0) where
   module _ (p q : Place) (skips : SkipsTo p q) (pl : r .place ≡ p) where
-    read-skipping : readWord r (wordAt i w) ≡ only (skipping q r (wordAt i w))
+    read-skipping : readWord r (wordWith i w) ≡ only (skipping q r (wordWith i w))
     unfolding readWord
     read-skipping =
-        ap (λ (b : Bool). cond b (readAt (r .place) r (wordAt i w)) (only r)) (eq-eqb _ _ good)
-        ∙ ap (λ (x : Place). readAt x r (wordAt i w)) pl ∙ skips r (wordAt i w)
+        ap (λ (b : Bool). cond b (readAt (r .place) r (wordWith i w)) (only r)) (eq-eqb _ _ good)
+        ∙ ap (λ (x : Place). readAt x r (wordWith i w)) pl ∙ skips r (wordWith i w)
 
-    read-passed : isText "$end" w ≡ false → readWord r (wordAt i w) ≡ only r
+    read-passed : isText "$end" w ≡ false → readWord r (wordWith i w) ≡ only r
     read-passed e = read-skipping ∙ ap (λ (b : Bool). only (cond b (at q r) r)) e
 
-    read-end : isText "$end" w ≡ true → readWord r (wordAt i w) ≡ only (at q r)
+    read-end : isText "$end" w ≡ true → readWord r (wordWith i w) ≡ only (at q r)
     read-end e = read-skipping ∙ ap (λ (b : Bool). only (cond b (at q r) r)) e
 
-  pub reads-comment : r .place ≡ Body → isText "$comment" w ≡ true → readWord r (wordAt i w) ≡ only (at SkipBody r)
+  pub reads-comment : r .place ≡ Body → isText "$comment" w ≡ true → readWord r (wordWith i w) ≡ only (at SkipBody r)
   unfolding readWord readAt readBody
   reads-comment pl e =
-      ap (λ (x : List ℕ). readWord r (wordAt i x)) (same-eq w (bytesOf "$comment") e) ∙ rw (eq-eqb _ _ good, pl)
+      ap (λ (x : List ℕ). readWord r (wordWith i x)) (same-eq w (bytesOf "$comment") e) ∙ rw (eq-eqb _ _ good, pl)
 
-  pub reads-skipped : r .place ≡ Definition → isSkipped w ≡ true → readWord r (wordAt i w) ≡ only (at SkipDefinition r)
+  pub reads-skipped : r .place ≡ Definition → isSkipped w ≡ true → readWord r (wordWith i w) ≡ only (at SkipDefinition r)
   unfolding readWord readAt readDefinition
   reads-skipped pl e = rw (eq-eqb _ _ good, pl, e)
 
-  pub reads-end : r .place ≡ Block → isText "$end" w ≡ true → readWord r (wordAt i w) ≡ only (at Body r)
+  pub reads-end : r .place ≡ Block → isText "$end" w ≡ true → readWord r (wordWith i w) ≡ only (at Body r)
   unfolding readWord readAt readBlock
   reads-end pl e = rw (eq-eqb _ _ good, pl, e)
 
-  pub reads-dump : r .place ≡ Body → opensBlock w ≡ true → readWord r (wordAt i w) ≡ only (at Block r)
+  pub reads-dump : r .place ≡ Body → opensBlock w ≡ true → readWord r (wordWith i w) ≡ only (at Block r)
   unfolding readWord readAt readBody
   reads-dump pl e =
       let no-time = and-l (not (startsTime w)) (not (isText "$comment" w) && isDump w) e in
@@ -141,7 +141,7 @@ some-word test w e none n = clash e (ap test n ∙ none)
 -- ---- from the word after which others are skipped
 
 module _ (t : List ℕ) (i : ℕ) (p q : Place) (skips : SkipsTo q p) (some : wordFrom t i ≡ [] → ⊥)
-    (opens : (r : Reader) → r .place ≡ p → r .fault .number ≡ 0 → readWord r (wordAt i (wordFrom t i)) ≡ only (at q r)) where
+    (opens : (r : Reader) → r .place ≡ p → r .fault .number ≡ 0 → readWord r (wordWith i (wordFrom t i)) ≡ only (at q r)) where
   pub passed-by : (end : ℕ) (e : Ended) → end ≡ i + length (wordFrom t i) → ToEnd t end e → PassedBy p t i e
   passed-by end e h k =
       let inside = word-inside t i some in
@@ -164,7 +164,7 @@ module _ (t : List ℕ) (i : ℕ) (block : Bool) (k : Turned) where
       (found : Bool) (end : ℕ) (next : Bool) → k ≡ turnedWith found end next →
       (found ≡ true → wordFrom t i ≡ [] → ⊥) → (found ≡ true → end ≡ i + length (wordFrom t i)) →
       (found ≡ true → (r : Reader) → r .place ≡ changePlace block → r .fault .number ≡ 0 →
-      readWord r (wordAt i (wordFrom t i)) ≡ only (at (changePlace next) r)) →
+      readWord r (wordWith i (wordFrom t i)) ≡ only (at (changePlace next) r)) →
       Turns t i block k
   turns-by found end next e some ends reads =
       rw e

@@ -15,7 +15,7 @@ use Rattle.recording.specs.declared.Value.{Value}
 use Rattle.recording.specs.declared.Vector.{Vector}
 use Rattle.recording.specs.declared.Variables.{Variables}
 use Rattle.recording.specs.declared.Reader.{Reader}
-use Rattle.recording.specs.Words.{separator, wordAt}
+use Rattle.recording.specs.Words.{separator, wordWith}
 use Rattle.recording.specs.Values.{value, unknown, vectorWith, vectorOf, codeOf}
 use Rattle.recording.specs.Records.{variableWith, withVariableOf, readerWith, pendingWith, stampWith, at, withUp, withTaken, withTime}
 use Rattle.recording.specs.Records.{readWith}
@@ -67,7 +67,7 @@ pub record Places (vs : Variables) (code : ℕ) (v : Vector) (p : Placed) : Type
   pub some : p .found ≡ true → 0 < code
   pub takes :
       p .found ≡ true → (next : Place) (r : Reader) (i : ℕ) (w : List ℕ) → r .variables ≡ vs → r .pending .vector ≡ v →
-      code ≡ codeOf w → readVectorCode next (vectorSignal r w) r (wordAt i w) ≡ withVariables (p .variables) (at next r)
+      code ≡ codeOf w → readVectorCode next (vectorSignal r w) r (wordWith i w) ≡ withVariables (p .variables) (at next r)
 
 -- ---- stb
 
@@ -110,4 +110,4 @@ pub record Takes (r : Reader) (time : ℕ) : Type 0 where
   pub room : r .taken < 65535
   pub gives :
       r .fault .number ≡ 0 → (i : ℕ) (w : List ℕ) → isTime w ≡ true → time ≡ timeOf w →
-      readTime r (wordAt i w) ≡ readWith (afterCommand r time) (strobeOf r)
+      readTime r (wordWith i w) ≡ readWith (afterCommand r time) (strobeOf r)

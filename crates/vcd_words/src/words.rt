@@ -3,7 +3,7 @@ ghost use Prim.Native.Nat.{ℕ};
 ghost use mathlib.Core.Path.{_≡_};
 ghost use mathlib.Core.List.{List};
 ghost use mathlib.Core.Bool.{true};
-ghost use Rattle.recording.specs.Words.{wordAt};
+ghost use Rattle.recording.specs.Words.{wordWith};
 ghost use Rattle.recording.specs.Reading.{isBody, expected as expectedOf, skipping as skippingOf, isSkipped, readDefinition, readWidth};
 ghost use Rattle.recording.specs.Reading.{readCode, readName, isScalar, readChange, readVectorCode, vectorSignal, startsTime, isLater};
 ghost use Rattle.recording.specs.Reading.{openStamp, readTime, isDump, readBody, readBlock, readWord, finish as finishOf};
@@ -28,7 +28,7 @@ use recording::Value;
 
 // Only this keyword may stand here; then the next place.
 fn expected(k: Keyword, next: Place, r: Reader, at: u64, p: Partial) -> Reader
-    ensures { λ s. ⌜ ((w : List ℕ) → Keeps p w → s ≡ expectedOf (textOf k) next r (wordAt at w)) ⌝ }
+    ensures { λ s. ⌜ ((w : List ℕ) → Keeps p w → s ≡ expectedOf (textOf k) next r (wordWith at w)) ⌝ }
 {
     if marks::says(p, k) {
         return readers::at(r, next);
@@ -37,7 +37,7 @@ fn expected(k: Keyword, next: Place, r: Reader, at: u64, p: Partial) -> Reader
 }
 
 fn skipping(next: Place, r: Reader, p: Partial) -> Reader
-    ensures { λ s. ⌜ ((at : ℕ) (w : List ℕ) → Keeps p w → s ≡ skippingOf next r (wordAt at w)) ⌝ }
+    ensures { λ s. ⌜ ((at : ℕ) (w : List ℕ) → Keeps p w → s ≡ skippingOf next r (wordWith at w)) ⌝ }
 {
     if marks::says(p, Keyword::End) {
         return readers::at(r, next);
@@ -59,7 +59,7 @@ fn is_skipped(p: Partial) -> bool
 }
 
 fn definition(r: Reader, at: u64, p: Partial) -> Reader
-    ensures { λ s. ⌜ ((w : List ℕ) → Keeps p w → s ≡ readDefinition r (wordAt at w)) ⌝ }
+    ensures { λ s. ⌜ ((w : List ℕ) → Keeps p w → s ≡ readDefinition r (wordWith at w)) ⌝ }
 {
     if is_skipped(p) {
         return readers::at(r, Place::SkipDefinition);
@@ -77,7 +77,7 @@ fn definition(r: Reader, at: u64, p: Partial) -> Reader
 }
 
 fn width(r: Reader, at: u64, p: Partial) -> Reader
-    ensures { λ s. ⌜ ((w : List ℕ) → Keeps p w → s ≡ readWidth r (wordAt at w)) ⌝ }
+    ensures { λ s. ⌜ ((w : List ℕ) → Keeps p w → s ≡ readWidth r (wordWith at w)) ⌝ }
 {
     if marks::is_decimal(p) {
         return readers::at(readers::with_width(r, marks::width(p)), Place::Code);
@@ -86,7 +86,7 @@ fn width(r: Reader, at: u64, p: Partial) -> Reader
 }
 
 fn code(r: Reader, at: u64, p: Partial) -> Reader
-    ensures { λ s. ⌜ ((w : List ℕ) → Keeps p w → s ≡ readCode r (wordAt at w)) ⌝ }
+    ensures { λ s. ⌜ ((w : List ℕ) → Keeps p w → s ≡ readCode r (wordWith at w)) ⌝ }
 {
     let c = marks::code_of(p.length, p.low);
     if c == 0 {
@@ -96,7 +96,7 @@ fn code(r: Reader, at: u64, p: Partial) -> Reader
 }
 
 fn name(r: Reader, at: u64, p: Partial) -> Reader
-    ensures { λ s. ⌜ ((w : List ℕ) → Keeps p w → s ≡ readName (signalOf w) r (wordAt at w)) ⌝ }
+    ensures { λ s. ⌜ ((w : List ℕ) → Keeps p w → s ≡ readName (signalOf w) r (wordWith at w)) ⌝ }
 {
     let n = declarations::named(p);
     match n {
@@ -138,7 +138,7 @@ fn is_scalar(r: Reader, p: Partial) -> bool
 }
 
 fn change(next: Place, code_next: Place, r: Reader, at: u64, p: Partial) -> Reader
-    ensures { λ s. ⌜ ((w : List ℕ) → Keeps p w → s ≡ readChange next «code_next» r (wordAt at w)) ⌝ }
+    ensures { λ s. ⌜ ((w : List ℕ) → Keeps p w → s ≡ readChange next «code_next» r (wordWith at w)) ⌝ }
 {
     if marks::is_vector(p) {
         return readers::at(readers::with_vector(r, marks::vector(p)), code_next);
@@ -153,7 +153,7 @@ fn change(next: Place, code_next: Place, r: Reader, at: u64, p: Partial) -> Read
 }
 
 fn vector_code(next: Place, r: Reader, at: u64, p: Partial) -> Reader
-    ensures { λ s. ⌜ ((w : List ℕ) → Keeps p w → s ≡ readVectorCode next (vectorSignal r w) r (wordAt at w)) ⌝ }
+    ensures { λ s. ⌜ ((w : List ℕ) → Keeps p w → s ≡ readVectorCode next (vectorSignal r w) r (wordWith at w)) ⌝ }
 {
     let n = declarations::coded(r, marks::code_of(p.length, p.low));
     match n {
@@ -181,7 +181,7 @@ pub fn is_later(r: Reader, t: u64) -> bool
 }
 
 fn open_stamp(r: Reader, at: u64, p: Partial) -> Reader
-    ensures { λ s. ⌜ ((w : List ℕ) → Keeps p w → startsTime w ≡ true → s ≡ openStamp r (wordAt at w)) ⌝ }
+    ensures { λ s. ⌜ ((w : List ℕ) → Keeps p w → startsTime w ≡ true → s ≡ openStamp r (wordWith at w)) ⌝ }
 {
     if !marks::is_time(p) {
         return readers::refused(r, 11, at);
@@ -193,7 +193,7 @@ fn open_stamp(r: Reader, at: u64, p: Partial) -> Reader
 }
 
 fn time(r: Reader, at: u64, p: Partial) -> Read
-    ensures { λ a. ⌜ ((w : List ℕ) → Keeps p w → startsTime w ≡ true → a ≡ readTime r (wordAt at w)) ⌝ }
+    ensures { λ a. ⌜ ((w : List ℕ) → Keeps p w → startsTime w ≡ true → a ≡ readTime r (wordWith at w)) ⌝ }
 {
     let ended = stamps::end_open_stamp(r, at);
     let next = ended.reader;
@@ -219,7 +219,7 @@ fn is_dump(p: Partial) -> bool
 }
 
 fn body(r: Reader, at: u64, p: Partial) -> Read
-    ensures { λ a. ⌜ ((w : List ℕ) → Keeps p w → a ≡ readBody r (wordAt at w)) ⌝ }
+    ensures { λ a. ⌜ ((w : List ℕ) → Keeps p w → a ≡ readBody r (wordWith at w)) ⌝ }
 {
     if marks::starts_time(p) {
         return time(r, at, p);
@@ -234,7 +234,7 @@ fn body(r: Reader, at: u64, p: Partial) -> Read
 }
 
 fn block(r: Reader, at: u64, p: Partial) -> Reader
-    ensures { λ s. ⌜ ((w : List ℕ) → Keeps p w → s ≡ readBlock r (wordAt at w)) ⌝ }
+    ensures { λ s. ⌜ ((w : List ℕ) → Keeps p w → s ≡ readBlock r (wordWith at w)) ⌝ }
 {
     if marks::says(p, Keyword::End) {
         return readers::at(r, Place::Body);
@@ -244,7 +244,7 @@ fn block(r: Reader, at: u64, p: Partial) -> Reader
 
 // What a word does: it depends on what is kept of the word, and on nothing else of it.
 pub fn word(r: Reader, at: u64, p: Partial) -> Read
-    ensures { λ a. ⌜ ((w : List ℕ) → Keeps p w → a ≡ readWord r (wordAt at w)) ⌝ }
+    ensures { λ a. ⌜ ((w : List ℕ) → Keeps p w → a ≡ readWord r (wordWith at w)) ⌝ }
 {
     if r.fault.number != 0 {
         return readers::only(r);

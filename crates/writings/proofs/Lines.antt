@@ -21,7 +21,7 @@ use Rattle.recording.specs.declared.Value.{Value}
 use Rattle.recording.specs.declared.Vector.{Vector}
 use Rattle.recording.specs.declared.Stamp.{Stamp}
 use Rattle.recording.specs.declared.Reader.{Reader}
-use Rattle.recording.specs.Words.{all, wordAt}
+use Rattle.recording.specs.Words.{all, wordWith}
 use Rattle.recording.specs.Values.{codeOf, value, valueOf, vectorWith}
 use Rattle.recording.specs.Records.{variableWith, variablesWith, pendingWith, faultWith, readerWith, withTime, only}
 use Rattle.recording.specs.Declarations.{Form, widthIn}
@@ -72,7 +72,7 @@ pub data Vectored : Signal → Type 0 where
 module _ (f : Form) (h : Held) (stb : Value) (stamp : Stamp) (taken : ℕ) where
   -- a code after its vector, where that isn't too long
   code-read : (s : Signal) → Vectored s → (v : Vector) → leb (v .length) (widthIn f s) ≡ true → (at : ℕ) →
-      readWord (readerIn f BodyCode (heldWith v (h .cmd) (h .core) (h .arg) (h .prio)) stb stamp taken) (wordAt at (codeByte s ∷ [])) ≡
+      readWord (readerIn f BodyCode (heldWith v (h .cmd) (h .core) (h .arg) (h .prio)) stb stamp taken) (wordWith at (codeByte s ∷ [])) ≡
       only (readerIn f Body (given s v h) stb stamp taken)
   unfolding readWord readAt readVectorCode codeOf
   code-read Cmd of-cmd v fits at = rw fits
@@ -82,7 +82,7 @@ module _ (f : Form) (h : Held) (stb : Value) (stamp : Stamp) (taken : ℕ) where
 
   -- a vector, whose code is due
   bits-read : (x width : ℕ) → 0 < width → width ≤ 16 → x < 2 ^ width → (at : ℕ) →
-      readWord (readerIn f Body h stb stamp taken) (wordAt at (98 ∷ numeralBytes 2 x)) ≡
+      readWord (readerIn f Body h stb stamp taken) (wordWith at (98 ∷ numeralBytes 2 x)) ≡
       only
       (readerIn f BodyCode (heldWith (vectorWith (length (digits 2 x)) (value true x)) (h .cmd) (h .core) (h .arg) (h .prio)) stb stamp
       taken)
@@ -148,7 +148,7 @@ later r t h = go (flag (r .stamp .opened))
     go (off e) = or-in-l (ltb (r .stamp .time) t) (not-in e)
 
 pub opens-at : (r : Reader) (at t : ℕ) → t ≤ maxTime → (r .stamp .opened ≡ true → r .stamp .time < t) →
-    openStamp r (wordAt at (35 ∷ numeralBytes 10 t)) ≡ withTime t r
+    openStamp r (wordWith at (35 ∷ numeralBytes 10 t)) ≡ withTime t r
 unfolding openStamp
 opens-at r at t small rises =
     rw (decimal-digits t, decimal-read t, le-leb t maxTime small, later r t rises)

@@ -19,7 +19,7 @@ use Rattle.model.specs.declared.Command.{Command}
 use Rattle.recording.specs.declared.Reader.{Reader}
 use Rattle.recording.specs.declared.Read.{Read}
 use Rattle.recording.specs.declared.Strobe.{Strobe}
-use Rattle.recording.specs.Words.{all, separator, Word, wordAt, closed, cut, words}
+use Rattle.recording.specs.Words.{all, separator, Word, wordWith, closed, cut, words}
 use Rattle.recording.specs.Records.{readWith, only}
 use Rattle.recording.specs.Stamps.{commandsOf}
 use Rattle.recording.specs.Reading.{readWord, Progress, progress, advance, readWords, timesAt, timesFrom}
@@ -48,12 +48,12 @@ cut-plain at v (b ∷ w) h =
 
 -- a word and the separator behind it
 cut-word : (at : ℕ) (w u : List ℕ) (b : ℕ) → 0 < length w → all isPlain w ≡ true → separator b ≡ true →
-    cut at [] (w ++ (b ∷ u)) ≡ wordAt at w ∷ cut (suc (at + length w)) [] u
+    cut at [] (w ++ (b ∷ u)) ≡ wordWith at w ∷ cut (suc (at + length w)) [] u
 cut-word at [] u b some plain s = absurd (not-suc-le-zero some)
 cut-word at (c ∷ w) u b some plain s =
     cut-joined at [] (c ∷ w) u b s ∙
     ap (λ (ws : List Word). ws ++ cut (suc (at + suc (length w))) [] u) (cut-plain at [] (c ∷ w) plain) ∙
-    ap (λ (n : ℕ). wordAt n (c ∷ w) ∷ cut (suc (at + suc (length w))) [] u) (omega arith)
+    ap (λ (n : ℕ). wordWith n (c ∷ w) ∷ cut (suc (at + suc (length w))) [] u) (omega arith)
 
 -- ---- passages
 
@@ -74,23 +74,23 @@ nothing-passes r at =
 
 module _ (w : List ℕ) (b : ℕ) (r r′ : Reader) where
   pub word-passes : (s : Strobe) → 0 < length w → all isPlain w ≡ true → separator b ≡ true →
-      ((at : ℕ) → readWord r (wordAt at w) ≡ readWith r′ s) →
+      ((at : ℕ) → readWord r (wordWith at w) ≡ readWith r′ s) →
       Passes (w ++ (b ∷ [])) r r′ (commandsOf s) (map (λ (c : Command). r .stamp .time) (commandsOf s))
   unfolding readWords advance timesFrom
   word-passes s some plain sep read at =
       record {
-        words = wordAt at w ∷ [];
+        words = wordWith at w ∷ [];
         parted =
             λ u.
             ap (cut at []) (append-assoc w (b ∷ []) u) ∙ cut-word at w u b some plain sep ∙
-            ap (λ (n : ℕ). wordAt at w ∷ cut n [] u) (omega (arith, length-append w (b ∷ [])));
+            ap (λ (n : ℕ). wordWith at w ∷ cut n [] u) (omega (arith, length-append w (b ∷ [])));
         reached = ap (λ (a : Read). progress (a .reader) (commandsOf (a .strobe))) (read at);
         timed =
-            append-nil (timesAt r (readWord r (wordAt at w))) ∙
+            append-nil (timesAt r (readWord r (wordWith at w))) ∙
             ap (λ (a : Read). map (λ (c : Command). r .stamp .time) (commandsOf (a .strobe))) (read at);
       }
 
-  pub quiet-passes : 0 < length w → all isPlain w ≡ true → separator b ≡ true → ((at : ℕ) → readWord r (wordAt at w) ≡ only r′) →
+  pub quiet-passes : 0 < length w → all isPlain w ≡ true → separator b ≡ true → ((at : ℕ) → readWord r (wordWith at w) ≡ only r′) →
       Passes (w ++ (b ∷ [])) r r′ [] []
   unfolding commandsOf
   quiet-passes = word-passes _

@@ -16,6 +16,7 @@ use Rattle.model.specs.Records.{reset}
 use Rattle.model.specs.Commands.{badSize, run}
 use Rattle.model.specs.Ledger.{answersTo}
 use Rattle.model.specs.WellFormed.{sizesInRange}
+use Rattle.layout.specs.Bytes.{oneCommand}
 use Rattle.layout.specs.Commands.{commandOf}
 use Rattle.recording.specs.declared.Signal.the-variants.{Cmd, Core, Arg, Prio}
 use Rattle.recording.specs.declared.Value.{Value}
@@ -23,7 +24,7 @@ use Rattle.recording.specs.declared.Reader.{Reader}
 use Rattle.recording.specs.Words.{all, Word, words}
 use Rattle.recording.specs.Records.{start, variable, noStrobe}
 use Rattle.recording.specs.Declarations.{narrow}
-use Rattle.recording.specs.Stamps.{rises, usesCore, usesPriority, named, strobeOf, commandsOf}
+use Rattle.recording.specs.Stamps.{rises, usesCore, usesPriority, strobeOf, commandsOf}
 use Rattle.recording.specs.Reading.{isGood, readWord, finish, Progress, progress, advance, readWords, finished, Reading, answered, reading}
 use Rattle.recording.specs.Replay.{Replay, replayWith, replayFrom, replayed}
 use Rattle.recording.specs.Faults.{endsStamp, unclear, excessive, takenAt}
@@ -44,7 +45,7 @@ Writable cs = all (writable narrow) cs ≡ true
 
 module _ (core arg prio : Value) (c : core .number < 2 ^ 5) (a : arg .number < 2 ^ 8) (p : prio .number < 2 ^ 9) where
   named-fits : (number : ℕ) → number < 8 →
-      Writable (named (commandOf number ((cond (usesCore number) core arg) .number) (cond (usesPriority number) (prio .number) 0)))
+      Writable (oneCommand (commandOf number ((cond (usesCore number) core arg) .number) (cond (usesPriority number) (prio .number) 0)))
   unfolding commandOf
   named-fits zero h = rw (lt-ltb (arg .number) (2 ^ 8) a, lt-ltb (prio .number) (2 ^ 9) p)
   named-fits (suc zero) h = rw (lt-ltb (arg .number) (2 ^ 8) a)

@@ -21,7 +21,7 @@ use Rattle.recording.specs.declared.Place.the-variants.{Body}
 use Rattle.recording.specs.declared.Signal.the-variants.{Core, Cmd, Arg, Prio}
 use Rattle.recording.specs.declared.Stamp.{Stamp}
 use Rattle.recording.specs.declared.Reader.{Reader}
-use Rattle.recording.specs.Words.{all, wordAt}
+use Rattle.recording.specs.Words.{all, wordWith}
 use Rattle.recording.specs.Values.{value}
 use Rattle.recording.specs.Records.{stampWith, withUp, withTaken, readWith, only}
 use Rattle.recording.specs.Declarations.{Form, widthIn}
@@ -85,7 +85,7 @@ module _ (f : Form) where
   -- ---- the first stamp of a command
 
   opens-first : (i : ℕ) (h : Held) → i < maxCommands → (at : ℕ) →
-      readWord (between f i h) (wordAt at (35 ∷ numeralBytes 10 (2 * i))) ≡
+      readWord (between f i h) (wordWith at (35 ∷ numeralBytes 10 (2 * i))) ≡
       only (readerIn f Body h (value true 0) (stampWith true (2 * i) false) i)
   unfolding readWord readAt readBody readTime andThen endOpenStamp endStamp
   opens-first zero h l at = ap only (opens-at (between f zero h) at 0 (omega arith) (λ e. absurd (true≢false (sym e))))
@@ -126,7 +126,7 @@ module _ (f : Form) where
 
   taking : (i : ℕ) (c : Command) → i < maxCommands → (at : ℕ) →
       let r = raised c (stampWith true (2 * i) false) i in
-      readWord r (wordAt at (35 ∷ numeralBytes 10 (suc (2 * i)))) ≡ readWith (raised c (before (suc i)) (suc i)) (strobeOf r)
+      readWord r (wordWith at (35 ∷ numeralBytes 10 (suc (2 * i)))) ≡ readWith (raised c (before (suc i)) (suc i)) (strobeOf r)
   unfolding readWord readAt readBody readTime andThen endOpenStamp endStamp
   taking i c l at =
       let r = raised c (stampWith true (2 * i) false) i in

@@ -10,24 +10,14 @@ use native.Mathlib.Nat.{not-suc-le-zero}
 use lib.ListN.{length, getD}
 use borrow.Author.Tests.{eq-eqb, ne-eqb}
 use Rattle.model.specs.declared.Command.{Command}
-use Rattle.model.specs.declared.Decoded.{Decoded}
-use Rattle.model.specs.declared.Decoded.the-variants.{Unknown, Known}
 use Rattle.layout.specs.Commands.{commandOf}
 use Rattle.layout.proofs.Commands.{unknown}
 use Rattle.layout.specs.Bytes.{commandSize, orEnd, inFives, oneCommand, commandsIn}
-use Rattle.recording.specs.Stamps.{named}
 use Rattle.recording.specs.Calls.{isRun}
 use Rattle.recording.specs.WritingStatements.{NoRun, cut-end, no-command}
 use Rattle.readings.proofs.Commanded.{named-one}
 
 -- ---- one command of a list
-
-same-length : (d : Decoded) → length (oneCommand d) ≡ length (named d)
-same-length Unknown = refl
-same-length (Known c) = refl
-
-known-one : (number at p : ℕ) → number < 8 → length (oneCommand (commandOf number at p)) ≡ 1
-known-one number at p h = same-length (commandOf number at p) ∙ named-one number at p h
 
 unknown-none : (number at p : ℕ) → 7 < number → oneCommand (commandOf number at p) ≡ []
 unknown-none number at p h = ap oneCommand (unknown number at p h)
@@ -77,7 +67,7 @@ module _ (a b c d e : ℕ) (rest : List ℕ) where
       read = oneCommand (commandOf a (b + 256 * c) (d + 256 * e))
 
       longer : a < 8 → length (commandsIn row) ≡ suc (length (commandsIn rest))
-      longer h = more-length read (commandsIn rest) (known-one a (b + 256 * c) (d + 256 * e) h)
+      longer h = more-length read (commandsIn rest) (named-one a (b + 256 * c) (d + 256 * e) h)
 
       go : Dec (7 < a) → Told rest → Told row
       go (yes p) t =
