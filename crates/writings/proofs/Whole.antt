@@ -1,7 +1,7 @@
 -- Whether bytes are whole commands: the test of the call that writes means what `NoRun` says. Assumes nothing.
 --   told        a list is a run, or it is none
 use Prim.Native.Nat.{ℕ, zero, suc, _+_, _*_, _<_}
-use mathlib.Core.Path.{_≡_, refl, ap, _∙_}
+use mathlib.Core.Path.{_≡_, refl, ap}
 use mathlib.Core.List.{List, [], _∷_}
 use mathlib.Core.Bool.{true, false}
 use native.Mathlib.Omega.{arith}
