@@ -93,7 +93,7 @@ fn is_idle(s: Source) -> bool
     s.priority == 0
 }
 
-// Whether a source is fresh: masked, of configured priority 1, with no request. So nested, the compiler merges the tests.
+// Whether a source is fresh: masked, of configured priority 1, with nothing dropped and no request. So nested, the compiler merges the tests.
 pub fn is_reset_source(s: Source) -> bool
     ensures { λ r. ⌜ r ≡ isResetSource s ⌝ }
 {
@@ -101,6 +101,9 @@ pub fn is_reset_source(s: Source) -> bool
         return false;
     }
     if !s.masked {
+        return false;
+    }
+    if s.dropped != 0 {
         return false;
     }
     is_idle(s)
