@@ -223,7 +223,7 @@ further =
 -- T10 with source 4 at 9 under its request of 4, which set source priority refuses.
 unfoldable pub apart : Controller
 unfolding corePriority trigger
-apart = withSource (run start (corePriority 0 4 ∷ corePriority 1 4 ∷ trigger 4 ∷ [])) 3 (sourceWith 9 false true false 4)
+apart = withSource (run start (corePriority 0 4 ∷ corePriority 1 4 ∷ trigger 4 ∷ [])) 3 (sourceWith 9 false true false 4 0)
 
 -- Sound, so commands are accepted, and the request's own priority counts: 4 waits on; delivered, its core shows 4.
 unfoldable pub asked : List Case

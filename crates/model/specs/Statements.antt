@@ -193,7 +193,8 @@ abbrev pub changed : {A : Type 0} → Change A → A → A
 changed keep old = old
 changed (becomes value) old = value
 
--- The columns of a source: configured priority, mask, pending, delivered, and the request's priority.
+-- The columns of a source: configured priority, mask, pending, delivered, and the request's priority. No row has the count of dropped
+-- triggers.
 abbrev pub sourceBy : Change ℕ → Change Bool → Change Bool → Change Bool → Change ℕ → Source → Source
 sourceBy configured masked pending delivered priority r =
     sourceWith
@@ -202,6 +203,7 @@ sourceBy configured masked pending delivered priority r =
     (changed pending (r .pending))
     (changed delivered (r .delivered))
     (changed priority (r .priority))
+    (r .dropped)
 
 -- The columns of a core: configured priority; of its box: filled, dirty, id, and priority.
 abbrev pub coreBy : Change ℕ → Change Bool → Change Bool → Change ℕ → Change ℕ → Core → Core
