@@ -15,7 +15,7 @@ use mathlib.Core.List.{List, [], _∷_}
 use mathlib.Core.Bool.{Bool, true, not, _&&_, _||_, cond}
 use lib.ListN.{length, getD, set, replicate}
 use lib.Dec.{ltb, leb, eqb}
-use Rattle.lists.specs.Numbers.{between}
+use Rattle.lists.specs.Numbers.{between, oneMoreUpTo}
 use Rattle.lists.specs.Walks.{every, tally}
 use Rattle.model.specs.declared.SourceId.{SourceId}
 use Rattle.model.specs.declared.CoreId.{CoreId}
@@ -256,11 +256,8 @@ abbrev pub mostHandovers : ℕ
 mostHandovers = 65535
 
 -- "Held at 65,535".
-abbrev pub oneMore : ℕ → ℕ
-oneMore x = cond (ltb x mostHandovers) (suc x) x
-
 abbrev pub raised : Handovers → ℕ → ℕ → Handovers
-raised t r c = set t r (set (rowAt t r) c (oneMore (cellAt t r c)))
+raised t r c = set t r (set (rowAt t r) c (oneMoreUpTo mostHandovers (cellAt t r c)))
 
 -- Core k claims a request whose last holder is given, as in `holderAt`: "last held by one, next claimed by another".
 abbrev pub handedOver : ℕ → ℕ → Bool
