@@ -1,13 +1,14 @@
 -- What a refused command hands back: the state given, but for a trigger that is counted as dropped. Assumes nothing.
 --   kept, counted, core-kept    by a number other than 6; by 6; a command on a core, by any
+--   by-refusal                  what holds of the two holds of what is handed back
 --   drops-named                 what is refused by 6 on a source names one, in a sound state
 --   one-read, drop-read         a reading of sources in which the count doesn't show stays, where one is dropped, and after every refusal
---   refused-sizes, refused-cores       sizes and cores stay
+--   beside                      a reading in which the sources don't show stays: sizes, cores
 --   refused-wellFormed          and a sound state stays sound
 use Prim.Native.Nat.{ℕ, _<_}
 use mathlib.Core.Path.{_≡_, refl, sym, ap, _∙_}
 use mathlib.Core.Logic.{_≢_}
-use mathlib.Core.Bool.{Bool, true, false, cond}
+use mathlib.Core.List.{List}
 use native.Mathlib.Omega.{arith}
 use lib.Dec.{eqb}
 use borrow.Author.Tests.{eq-eqb, ne-eqb, eqb-true, eqb-false}
@@ -19,10 +20,10 @@ use Rattle.model.specs.declared.Command.{Command}
 use Rattle.model.specs.declared.Command.the-variants.{OnSource, OnCore}
 use Rattle.model.specs.declared.SourceAction.{SourceAction}
 use Rattle.model.specs.declared.CoreAction.{CoreAction}
-use Rattle.model.specs.Records.{noSource, indexOf, withDropped, droppedOne, sourceAt, coreAt, withSource}
-use Rattle.model.specs.Requests.{currentPriority, candidate}
+use Rattle.model.specs.Records.{noSource, indexOf, withDropped, droppedOne, sourceAt, withSources, withSource}
+use Rattle.model.specs.Requests.{candidate}
 use Rattle.model.specs.WellFormed.{wellFormed, WellFormed}
-use Rattle.model.specs.Commands.{alreadyPending, unless, namesSource, sourceRefusal, refusalOf, refusal, dropCounted, afterRefusal}
+use Rattle.model.specs.Commands.{alreadyPending, namesSource, refusalOf, refusal, dropCounted, afterRefusal}
 use Rattle.lists.proofs.Bools.{Flag, flag, on, off}
 use Rattle.lists.proofs.Exact.{between-exact}
 use Rattle.lists.proofs.Writes.{read-kept}
@@ -48,6 +49,13 @@ module _ (s : Controller) (c : Command) (k : ℕ) where
 
 pub core-kept : (s : Controller) (core : CoreId) (a : CoreAction) (k : ℕ) → afterRefusal s (OnCore core a) k ≡ s
 core-kept s core a k = by-refusal s (OnCore core a) k (λ t. t ≡ s) (λ h. refl) (λ e. refl)
+
+-- ---- what is read beside the sources
+
+module _ {A : Type 0} (read : Controller → A) (s : Controller) (blind : (l : List Source) → read (withSources s l) ≡ read s) where
+  pub beside : (c : Command) (k : ℕ) → read (afterRefusal s c k) ≡ read s
+  beside (OnSource id a) k = by-refusal s (OnSource id a) k (λ t. read t ≡ read s) (λ h. refl) (λ e. blind _)
+  beside (OnCore core a) k = ap read (core-kept s core a k)
 
 -- ---- what is refused by 6
 
