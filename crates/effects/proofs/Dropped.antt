@@ -23,12 +23,12 @@ use Rattle.model.specs.declared.CoreAction.{CoreAction}
 use Rattle.model.specs.Records.{noSource, indexOf, withDropped, droppedOne, sourceAt, withSources, withSource}
 use Rattle.model.specs.Requests.{candidate}
 use Rattle.model.specs.WellFormed.{wellFormed, WellFormed}
-use Rattle.model.specs.Commands.{alreadyPending, namesSource, refusalOf, refusal, dropCounted, afterRefusal}
+use Rattle.model.specs.Commands.{malformed, badSource, alreadyPending, namesSource, sourceRefusal, refusalOf, refusal, dropCounted}
+use Rattle.model.specs.Commands.{afterRefusal}
 use Rattle.lists.proofs.Bools.{Flag, flag, on, off}
-use Rattle.lists.proofs.Exact.{between-exact}
 use Rattle.lists.proofs.Writes.{read-kept}
 use Rattle.well_formed.proofs.Test.{wellFormed-out}
-use Rattle.effects.proofs.Checked.{named-index}
+use Rattle.effects.proofs.Checked.{Named, named, named-index, passed-to}
 use Rattle.effects.proofs.SourceEffects.{withSource-consistent}
 
 module _ (s : Controller) (c : Command) (k : ℕ) where
@@ -59,15 +59,18 @@ module _ {A : Type 0} (read : Controller → A) (s : Controller) (blind : (l : L
 
 -- ---- what is refused by 6
 
+-- The checks before the last were passed, and that one gives the number.
+pub drops-checked : (s : Controller) (id : SourceId) (a : SourceAction) → refusal s (OnSource id a) ≡ alreadyPending →
+    WellFormed s × Named s id × (sourceRefusal s (indexOf id) a ≡ alreadyPending)
+unfolding refusal refusalOf
+drops-checked s id a e =
+    let (sound, checks) = passed-to alreadyPending (wellFormed s) malformed (refusalOf s (OnSource id a)) (λ z. omega arith) e in
+    let (here, last) = passed-to alreadyPending (namesSource s id) badSource (sourceRefusal s (indexOf id) a) (λ z. omega arith) checks in
+    (wellFormed-out s sound, named s id here, last)
+
 pub drops-named : (s : Controller) (id : SourceId) (a : SourceAction) →
     refusal s (OnSource id a) ≡ alreadyPending → WellFormed s × (indexOf id < s .n)
-unfolding refusal refusalOf
-drops-named s id a e = go (flag (wellFormed s)) (flag (namesSource s id))
-  where
-    go : Flag (wellFormed s) → Flag (namesSource s id) → WellFormed s × (indexOf id < s .n)
-    go (off f) g = absurd (omega (arith, rw f at e))
-    go (on f) (off g) = absurd (omega (arith, rw (f, g) at e))
-    go (on f) (on g) = (wellFormed-out s f, named-index s id ((between-exact 1 (s .n) (id .0)) .0 g))
+drops-named s id a e = let (w, h, last) = drops-checked s id a e in (w, named-index s id h)
 
 -- ---- what is read of the sources
 
