@@ -142,3 +142,6 @@ fresh-count n m i = blank maxSources i
 pub history-counted : (x : Behaviour) → DroppedChanges x → DroppedIsHistory x
 history-counted x changes n m cs i =
     run-counted x changes i cs (reset n m) 0 (fresh-count n m i) ∙ ap (min mostDropped) (omega arith)
+
+pub dropped-is-history : DroppedIsHistory execute
+dropped-is-history = history-counted execute dropped-changes
