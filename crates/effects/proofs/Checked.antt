@@ -3,7 +3,7 @@
 --   Named s id      id is 1 to n
 --   Checked s c     what the checks of command c say of its arguments, in their order; of its subject SourceChecked, CoreChecked
 --   by-index        from the indices of sources to their ids
---   passed-to       what a number says of the first check, if it isn't its own
+--   passed-to       what a number says of the first check, if it isn't its own; passed: what 0 says
 --   checked         they say it of a command that they don't refuse
 --   accepted        a command that is not refused finds a sound state besides
 use Prim.Native.Nat.{ℕ, zero, suc, pred, _<_, _≤_}
@@ -72,7 +72,7 @@ passed-to k true number later other e = (refl, e)
 passed-to k false number later other e = absurd (other e)
 
 -- a check that gives no number was passed, and so were the later ones
-passed : (b : Bool) (number later : ℕ) → unless b (suc number) later ≡ 0 → (b ≡ true) × (later ≡ 0)
+pub passed : (b : Bool) (number later : ℕ) → unless b (suc number) later ≡ 0 → (b ≡ true) × (later ≡ 0)
 passed b number later e = passed-to 0 b (suc number) later (λ z. omega arith) e
 
 -- The numerals are the refusals' numbers, less one.

@@ -1,5 +1,6 @@
 -- The counts of dropped triggers. Assumes nothing.
 --   accepted-count     an accepted command leaves every count
+--   undropped          what is answered by another number than 6 drops nothing
 --   refused-count      a refused one counts one more, held, exactly where it is a trigger that 6 refuses
 --   dropped-changes    so the counts tell such answers (`DroppedChanges`)
 --   fresh-count        a fresh state has counted none
@@ -9,7 +10,6 @@ use mathlib.Core.Path.{_≡_, refl, sym, _∙_, ap}
 use mathlib.Core.Logic.{_≢_}
 use mathlib.Core.List.{List, [], _∷_}
 use mathlib.Core.Bool.{Bool, true, false, not, cond, and-true, and-false}
-use lib.Dec.{eqb}
 use lib.ListN.{length, getD, replicate}
 use native.Mathlib.Omega.{arith}
 use borrow.Author.Tests.{eq-eqb, ne-eqb}
@@ -28,8 +28,8 @@ use Rattle.model.specs.Behaviours.{Behaviour, runBy, answersBy}
 use Rattle.model.specs.Priorities.{topPriority}
 use Rattle.model.specs.Requests.{claimed}
 use Rattle.model.specs.Settling.{settle}
-use Rattle.model.specs.Commands.{badPriority, alreadyPending, notClaimed, priorityInUse, unless, sourceAfter, effect, sourceRefusal, refusal}
-use Rattle.model.specs.Commands.{dropCounted, afterRefusal, settled, refused, execute}
+use Rattle.model.specs.Commands.{badPriority, alreadyPending, notClaimed, priorityInUse, unless, sourceAfter, effect, sourceRefusal}
+use Rattle.model.specs.Commands.{refusal, dropCounted, afterRefusal, settled, refused, execute}
 use Rattle.model.specs.Ledger.{paired, entriesBy}
 use Rattle.model.specs.Drops.{isTrigger, drops, dropsIn}
 use Rattle.model.specs.Statements.{DroppedChanges, DroppedIsHistory}
@@ -68,7 +68,7 @@ module _ (s : Controller) (c : Command) (i : ℕ) where
 
 -- ---- a refused one
 
-undropped : (id : ℕ) (c : Command) (k : ℕ) → k ≢ alreadyPending → drops id c k ≡ false
+pub undropped : (id : ℕ) (c : Command) (k : ℕ) → k ≢ alreadyPending → drops id c k ≡ false
 undropped id (OnSource x a) k h = rw (ne-eqb k alreadyPending h, and-false)
 undropped id (OnCore core a) k h = refl
 

@@ -1,7 +1,7 @@
 -- What a refused command hands back: the state given, but for a trigger that is counted as dropped. Assumes nothing.
 --   kept, counted, core-kept    by a number other than 6; by 6; a command on a core, by any
 --   by-refusal                  what holds of the two holds of what is handed back
---   drops-named                 what is refused by 6 on a source names one, in a sound state
+--   drops-checked, drops-named  what is refused by 6 on a source names one, in a sound state, and the last of its checks gives the number
 --   one-read, drop-read         a reading of sources in which the count doesn't show stays, where one is dropped, and after every refusal
 --   beside                      a reading in which the sources don't show stays: sizes, cores
 --   refused-wellFormed          and a sound state stays sound

@@ -5,7 +5,8 @@
 --   holderAt s i          the core that last held the request of source i + 1, plus one; 0: none
 --   soundRoutines s       the computed test, on any record; SoundRoutines s is what it means, and the two are proved equivalent
 --   callRefusal s c       the number for no, 0 for none
---   callRoutine s c       the whole call, on any state: a refused one hands back the state it was given, id 0 and 0 cycles
+--   callRoutine s c       the whole call, on any state: a refused one hands back the state it was given, id 0 and 0 cycles; a trigger
+--                         refused by 6 hands it back with one more dropped trigger at its source
 --   tableAfter t s c      the table of handovers after a call on s: the row is the core that held the request, the column the one that
 --                         claims it
 --   runRoutines, runTable the state and the table after a list of calls, refused ones included
