@@ -77,6 +77,35 @@ fn other_refusals_count_nothing() {
     }
 }
 
+/// A request that is claimed, ends and comes again, and all that can be done to its source meanwhile.
+#[test]
+fn accepted_commands_leave_every_count() {
+    let mut controller = one_of_each();
+    for (id, times) in [(1, 1), (2, 2), (3, 3), (4, 4)] {
+        let dropped = controller.run(&vec![Command::Trigger(SourceId(id)); times]);
+        assert!(dropped
+            .iter()
+            .all(|&answer| answer == Err(Refusal::Pending)));
+    }
+    for line in [
+        "mask 3",
+        "unmask 3",
+        "unmask 1",
+        "redeliver 4",
+        "set core 0 to 0",
+        "claim on core 0",
+        "complete 4",
+        "set source 4 to 1",
+        "trigger 4",
+        "trigger 5",
+        "set core 0 to 0",
+    ] {
+        let command: Command = line.parse().expect("a command");
+        assert!(controller.execute(command).is_ok(), "{line}");
+        assert_eq!(counts(&controller), [1, 2, 3, 4, 0], "{line}");
+    }
+}
+
 /// A count past n makes a state unsound; its pending sources count nothing then.
 #[test]
 fn counts_past_n_are_refused_by_1() {
