@@ -15,6 +15,7 @@ use psic_reference::routines::{Call, Listed, Routines};
 use psic_trials::fast::Fast;
 use psic_trials::library::{bytes_of, encoded, run_list, Library};
 use psic_trials::peer::{self, Peer};
+use psic_trials::recordings::{self, Reader};
 use psic_trials::simulations;
 use psic_trials::workload;
 use psic_trials::wrapper::Wrapper;
@@ -174,6 +175,22 @@ fn a_replay_counts_up_to_65534() {
         expected.sources[1].dropped = commands as u16 - 1;
         assert_eq!(state[..], bytes_of(&expected)[..], "{commands}");
     }
+}
+
+/// By both ways, against the reference.
+#[test]
+fn a_replay_that_loses_its_counts_is_found() {
+    let text = workload::recording(&[TRIGGER_2; 3]);
+    let replays = || {
+        let text = text.as_bytes();
+        [
+            recordings::Library.replay(3, 2, text, 0),
+            recordings::Wrapper.replay(3, 2, text, 0),
+        ]
+    };
+    assert_eq!(replays(), [Ok(()), Ok(())]);
+    let told = with_slip(Slip::ReplayCountsLost, replays);
+    assert!(told.iter().all(|told| told.is_err()), "{told:?}");
 }
 
 /// A request in each place: 1 waits masked, 2 waits unmasked, 3 lies in a box, 4 is claimed. Of a trigger of each the count is all that

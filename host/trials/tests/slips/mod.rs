@@ -55,7 +55,7 @@ pub enum Slip {
     ReplayCount,
     ReplayAnswer,
     ReplayState,
-    /// A replay ends with no count of dropped triggers.
+    /// A replay ends with no count of dropped triggers, which texts of all kinds seldom have.
     ReplayCountsLost,
     ReplayStateOfRefusedSizes,
     ReplayBehindAnswers,
@@ -98,7 +98,7 @@ impl Slip {
     ];
 
     /// Of the calls on a recording.
-    pub const OF_RECORDINGS: [Slip; 15] = [
+    pub const OF_RECORDINGS: [Slip; 14] = [
         Slip::ReadNumber,
         Slip::ReadOffset,
         Slip::ReadCount,
@@ -111,7 +111,6 @@ impl Slip {
         Slip::ReplayCount,
         Slip::ReplayAnswer,
         Slip::ReplayState,
-        Slip::ReplayCountsLost,
         Slip::ReplayStateOfRefusedSizes,
         Slip::ReplayBehindAnswers,
     ];
