@@ -1,6 +1,7 @@
 //! Request 7/14: triggers refused by 6 are counted at their source, held at 65,535, and nothing else counts or changes a count.
 
 use psic_reference::compare::Comparison;
+use psic_reference::damage;
 use psic_reference::dropped::{check_accepted, first_breach, Drops};
 use psic_reference::generate::{self, History, Mix};
 use psic_reference::model::{Model, Reference};
@@ -263,6 +264,33 @@ fn counts_of_any_value_are_counted_on() {
     }
     println!("{held} at 65,535, {reached} at 65,534");
     assert!(held > 50 && reached > 10);
+}
+
+/// Broken states have counts past n, and states one field away other counts of sources in use, with which they are sound.
+#[test]
+fn damage_reaches_counts_past_n_and_in_use() {
+    let mut random = Random::new(run_seed());
+    let history = generate::history(random.bits(), 8, 2, 200, Mix::Busy);
+    let sound = generate::counted(&mut random, &generate::final_state(&history));
+    let (mut in_use, mut past_n) = (0, 0);
+    for _ in 0..40 {
+        for state in damage::broken_states(&mut random, &sound) {
+            let pairs = state.sources.iter().zip(&sound.sources);
+            let changed = pairs.map(|(a, b)| a.dropped != b.dropped);
+            let Some(place) = changed.into_iter().position(|changed| changed) else {
+                continue;
+            };
+            past_n += usize::from(place >= 8);
+            let mut restored = state.clone();
+            restored.sources[place].dropped = sound.sources[place].dropped;
+            if restored == sound {
+                assert_eq!(well_formed(&state), place < 8, "source {}", place + 1);
+                in_use += usize::from(place < 8);
+            }
+        }
+    }
+    println!("{in_use} counts in use, {past_n} past n");
+    assert!(in_use > 20 && past_n > 20);
 }
 
 fn beside_the_reference<M: Model>(model: &M, seed: u64) -> Comparison<'_, Reference, M> {
