@@ -193,10 +193,8 @@ fn a_replay_that_loses_its_counts_is_found() {
     assert!(told.iter().all(|told| told.is_err()), "{told:?}");
 }
 
-/// A request in each place: 1 waits masked, 2 waits unmasked, 3 lies in a box, 4 is claimed. Of a trigger of each the count is all that
-/// changes; a source that there isn't, and a state that isn't sound, count nothing.
-#[test]
-fn a_dropped_trigger_counts_in_its_record_alone() {
+/// The library's state of 5 sources and a core with a request in each place: 1 waits masked, 2 waits unmasked, 3 lies in a box, 4 is claimed.
+fn in_each_place() -> Vec<u8> {
     let (_, mut state) = Library.make(5, 1);
     for id in [2, 3, 4].map(SourceId) {
         Library.execute(&mut state, Command::SetSourcePriority(id, id.0));
@@ -213,8 +211,16 @@ fn a_dropped_trigger_counts_in_its_record_alone() {
     ] {
         assert_eq!(Library.execute(&mut state, command).number, 0);
     }
+    let made = Library.read(&state);
+    assert!(made.is_boxed(SourceId(3)) && made.is_claimed(SourceId(4)));
+    state
+}
+
+/// Of a trigger of each the count is all that changes; a source that there isn't counts nothing.
+#[test]
+fn a_dropped_trigger_counts_in_its_record_alone() {
+    let mut state = in_each_place();
     let mut expected = Library.read(&state);
-    assert!(expected.is_boxed(SourceId(3)) && expected.is_claimed(SourceId(4)));
     for id in 1..=4 {
         let trigger = Command::Trigger(SourceId(id));
         assert_eq!(Library.execute(&mut state, trigger).number, 6);
@@ -226,8 +232,13 @@ fn a_dropped_trigger_counts_in_its_record_alone() {
         assert_eq!(Library.execute(&mut state, trigger).number, 4);
         assert_eq!(Library.read(&state), expected, "source {id}");
     }
+}
+
+/// By single commands and in lists: a count past n makes the state unsound.
+#[test]
+fn an_unsound_state_counts_nothing() {
     for place in [5, 127] {
-        let mut unsound = expected.clone();
+        let mut unsound = Library.read(&in_each_place());
         unsound.sources[place].dropped = 1;
         let mut state = Library.load(&unsound);
         for id in 1..=6 {
