@@ -193,7 +193,7 @@ fn a_replay_that_loses_its_counts_is_found() {
     assert!(told.iter().all(|told| told.is_err()), "{told:?}");
 }
 
-/// The library's state of 5 sources and a core with a request in each place: 1 waits masked, 2 waits unmasked, 3 lies in a box, 4 is claimed.
+/// 5 sources on a core, with a request in each place: 1 waits masked, 2 waits unmasked, 3 lies in a box, 4 is claimed.
 fn in_each_place() -> Vec<u8> {
     let (_, mut state) = Library.make(5, 1);
     for id in [2, 3, 4].map(SourceId) {
