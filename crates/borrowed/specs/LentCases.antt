@@ -75,16 +75,16 @@ lentCores =
 
 -- A record by its request's priority; the configured one isn't looked at.
 abbrev candidateAt : ℕ → Source
-candidateAt p = sourceWith 600 false true false p
+candidateAt p = sourceWith 600 false true false p 0
 
 abbrev maskedAt : ℕ → Source
-maskedAt p = sourceWith 600 true true false p
+maskedAt p = sourceWith 600 true true false p 0
 
 abbrev deliveredAt : ℕ → Source
-deliveredAt p = sourceWith 600 false true true p
+deliveredAt p = sourceWith 600 false true true p 0
 
 abbrev idleAt : ℕ → Source
-idleAt p = sourceWith 600 false false false p
+idleAt p = sourceWith 600 false false false p 0
 
 -- The list is searched; the position is counted from 1, and 0 is none.
 abbrev finds : List Source → ℕ → List Source × Found
@@ -107,7 +107,7 @@ lentLists =
     -- the highest, the others passed over
     finds (candidateAt 3 ∷ candidateAt 4 ∷ candidateAt 5 ∷ []) 3 ∷
     finds (idleAt 9 ∷ maskedAt 9 ∷ deliveredAt 9 ∷ candidateAt 1 ∷ []) 4 ∷
-    finds (sourceWith 9 false true false 1 ∷ sourceWith 1 false true false 2 ∷ []) 2 ∷
+    finds (sourceWith 9 false true false 1 0 ∷ sourceWith 1 false true false 2 0 ∷ []) 2 ∷
     -- the first of two equal
     finds (candidateAt 5 ∷ candidateAt 5 ∷ []) 1 ∷
     finds (candidateAt 1 ∷ candidateAt 5 ∷ candidateAt 2 ∷ candidateAt 5 ∷ candidateAt 3 ∷ []) 2 ∷

@@ -33,6 +33,7 @@ use Rattle.effects.proofs.Checked.{Checked, checked}
 use Rattle.effects.proofs.Effects.{effect-consistent}
 use Rattle.effects.proofs.AtRest.{claim-answer}
 use Rattle.effects.proofs.Answers.{at-name, at-later, free, answers}
+use Rattle.effects.proofs.Dropped.{core-kept}
 use Rattle.layout.specs.Bytes.{wordAt, coreBytes, coreFrom, stateFrom}
 use Rattle.in_place.specs.declared.Outcome.{Outcome}
 use Rattle.in_place.specs.Held.{corePlace, Held}
@@ -92,7 +93,9 @@ module _ {b keys ranks : List ℕ} (p : Ready b keys ranks) where
 
   module _ {core : CoreId} {a : CoreAction} {x : ℕ} {c : Core} (l : Judged s core a c x) where
     pub refused-later : {o : Outcome} → x ≢ 0 → Says o x 0 0 → Executed b (OnCore core a) o b keys ranks
-    refused-later h says = refused (p .held) (OnCore core a) (at-later s (OnCore core a) tested (l .named) x (l .number-found) h) says
+    refused-later h says =
+        refused (p .held) (OnCore core a)
+        (ap (λ t. answer t x 0 0) (sym (core-kept s core a x)) ∙ at-later s (OnCore core a) tested (l .named) x (l .number-found) h) says
 
     module _ (passes : x ≡ 0) where
       unrefused : refusalOf s (OnCore core a) ≡ 0

@@ -21,10 +21,10 @@ use Rattle.lists.proofs.Filling.{Filled, Anything, ValueOf, filled-none, filled
 
 module _ (b : List ℕ) (i : ℕ) where
   pub source-read :
-      (p q : ℕ) (r : Source) →
-      p ≡ wordAt b i → q ≡ wordAt b (i + 5) →
-      r ≡ sourceWith p (flagAt b (i + 2)) (flagAt b (i + 3)) (flagAt b (i + 4)) q → r ≡ sourceFrom b i
-  source-read p q r ep eq er = rw (er, ep, eq)
+      (p q d : ℕ) (r : Source) →
+      p ≡ wordAt b i → q ≡ wordAt b (i + 5) → d ≡ wordAt b (i + 7) →
+      r ≡ sourceWith p (flagAt b (i + 2)) (flagAt b (i + 3)) (flagAt b (i + 4)) q d → r ≡ sourceFrom b i
+  source-read p q d r ep eq ed er = rw (er, ep, eq, ed)
 
   pub core-read :
       (p id q : ℕ) (x : MessageBox) (r : Core) →

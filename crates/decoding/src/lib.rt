@@ -14,6 +14,7 @@ use layout::BOX_SOURCE;
 use layout::CORE_SIZE;
 use layout::CORES_FROM;
 use layout::SOURCE_DELIVERED;
+use layout::SOURCE_DROPPED;
 use layout::SOURCE_MASKED;
 use layout::SOURCE_PENDING;
 use layout::SOURCE_PRIORITY;
@@ -53,6 +54,7 @@ fn source_from(b: &[u8], i: usize) -> Source
         b[i + SOURCE_PENDING] == 1,
         b[i + SOURCE_DELIVERED] == 1,
         word_at(b, i + SOURCE_PRIORITY),
+        word_at(b, i + SOURCE_DROPPED),
     )
 }
 

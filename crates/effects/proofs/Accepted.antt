@@ -1,6 +1,6 @@
 -- What an accepted and a refused command answer. Assumes nothing.
 --   execute-accepted    one that is not refused answers the settled effect
---   execute-refused     a refused one answers the state it was given
+--   execute-refused     a refused one answers the state it was given, a dropped trigger counted
 --   by-answer           what holds of both answers holds of every command's
 --   demand-two          `execute` answers as document 01 derives it, by definition; that the code does is its contract
 use mathlib.Core.Path.{_≡_, refl}

@@ -13,8 +13,9 @@ use Rattle.model.specs.declared.Command.the-variants.{OnSource, OnCore}
 use Rattle.model.specs.Records.{indexOf, answer}
 use Rattle.model.specs.WellFormed.{wellFormed}
 use Rattle.model.specs.Commands.{badCore, badSource, unless, namesSource, namesCore, sourceRefusal, coreRefusal, effect, refusalOf, refusal}
-use Rattle.model.specs.Commands.{answeredId, settled, refused, execute}
+use Rattle.model.specs.Commands.{alreadyPending, answeredId, settled, afterRefusal, refused, execute}
 use Rattle.effects.proofs.Accepted.{execute-accepted, execute-refused}
+use Rattle.effects.proofs.Dropped.{kept}
 
 abbrev pub named : Controller → Command → Bool
 named s (OnSource id a) = namesSource s id
@@ -33,12 +34,12 @@ unfolding refusalOf
 in-turn s (OnSource id a) = refl
 in-turn s (OnCore k a) = refl
 
-some-number : (c : Command) → nameNumber c ≢ 0
-some-number (OnSource id a) e = absurd (omega arith)
-some-number (OnCore k a) e = absurd (omega arith)
+some-number : (c : Command) → (nameNumber c ≢ 0) × (nameNumber c ≢ alreadyPending)
+some-number (OnSource id a) = (λ e. absurd (omega arith), λ e. absurd (omega arith))
+some-number (OnCore k a) = (λ e. absurd (omega arith), λ e. absurd (omega arith))
 
 module _ (s : Controller) (c : Command) where
-  refused-by : (k : ℕ) → refusal s c ≡ k → k ≢ 0 → answer s k 0 0 ≡ execute s c
+  refused-by : (k : ℕ) → refusal s c ≡ k → k ≢ 0 → answer (afterRefusal s c k) k 0 0 ≡ execute s c
   unfolding refused
   refused-by k e h = ap (refused s c) (sym e) ∙ sym (execute-refused s c (λ z. h (sym e ∙ z)))
 
@@ -49,9 +50,11 @@ module _ (s : Controller) (c : Command) where
   module _ (sound : wellFormed s ≡ true) where
     pub at-name : named s c ≡ false → answer s (nameNumber c) 0 0 ≡ execute s c
     unfolding refusal
-    at-name e = refused-by (nameNumber c) (rw (sound, in-turn s c, e)) (some-number c)
+    at-name e =
+        ap (λ t. answer t (nameNumber c) 0 0) (sym (kept s c (nameNumber c) (some-number c .1))) ∙
+        refused-by (nameNumber c) (rw (sound, in-turn s c, e)) (some-number c .0)
 
-    pub at-later : named s c ≡ true → (k : ℕ) → k ≡ later s c → k ≢ 0 → answer s k 0 0 ≡ execute s c
+    pub at-later : named s c ≡ true → (k : ℕ) → k ≡ later s c → k ≢ 0 → answer (afterRefusal s c k) k 0 0 ≡ execute s c
     unfolding refusal
     at-later e k is h = refused-by k (rw (sound, in-turn s c, e) (sym is)) h
 

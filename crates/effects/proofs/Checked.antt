@@ -3,10 +3,12 @@
 --   Named s id      id is 1 to n
 --   Checked s c     what the checks of command c say of its arguments, in their order; of its subject SourceChecked, CoreChecked
 --   by-index        from the indices of sources to their ids
+--   passed-to       what a number says of the first check, if it isn't its own; passed: what 0 says
 --   checked         they say it of a command that they don't refuse
 --   accepted        a command that is not refused finds a sound state besides
 use Prim.Native.Nat.{ℕ, zero, suc, pred, _<_, _≤_}
 use mathlib.Core.Path.{_≡_, refl}
+use mathlib.Core.Logic.{_≢_}
 use mathlib.Core.Bool.{Bool, true, false, not}
 use lib.Dec.{leb}
 use native.Mathlib.Omega.{arith}
@@ -53,7 +55,7 @@ Checked s (OnSource id a) = Named s id × SourceChecked s (indexOf id) a
 Checked s (OnCore k a) = (k .0 < s .m) × CoreChecked s (k .0) a
 
 module _ (s : Controller) (id : SourceId) where
-  named : namesSource s id ≡ true → Named s id
+  pub named : namesSource s id ≡ true → Named s id
   named = (between-exact 1 (s .n) (id .0)) .0
 
   pub named-index : Named s id → indexOf id < s .n
@@ -64,10 +66,14 @@ pub by-index : {n : ℕ} (P : ℕ → Type 0) → ((i : ℕ) → i < n → P (su
 by-index P each zero h = absurd (omega arith)
 by-index P each (suc i) h = each i (omega arith)
 
+-- checks in a row whose number isn't that of the first have passed it, and the later ones give the number
+pub passed-to : (k : ℕ) (b : Bool) (number later : ℕ) → number ≢ k → unless b number later ≡ k → (b ≡ true) × (later ≡ k)
+passed-to k true number later other e = (refl, e)
+passed-to k false number later other e = absurd (other e)
+
 -- a check that gives no number was passed, and so were the later ones
-passed : (b : Bool) (number later : ℕ) → unless b (suc number) later ≡ 0 → (b ≡ true) × (later ≡ 0)
-passed true number later e = (refl, e)
-passed false number later e = absurd (omega arith)
+pub passed : (b : Bool) (number later : ℕ) → unless b (suc number) later ≡ 0 → (b ≡ true) × (later ≡ 0)
+passed b number later e = passed-to 0 b (suc number) later (λ z. omega arith) e
 
 -- The numerals are the refusals' numbers, less one.
 source-checked : (s : Controller) (i : ℕ) (a : SourceAction) → sourceRefusal s i a ≡ 0 → SourceChecked s i a

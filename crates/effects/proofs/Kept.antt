@@ -18,6 +18,7 @@ use Rattle.settling.proofs.Ends.{phases-settle}
 use Rattle.settling.proofs.Spared.{phases-spare}
 use Rattle.effects.proofs.Accepted.{execute-accepted, by-answer}
 use Rattle.effects.proofs.Checked.{accepted}
+use Rattle.effects.proofs.Dropped.{refused-wellFormed}
 use Rattle.effects.proofs.Effects.{effect-m, Begun, effect-begins}
 
 begun : (s : Controller) (c : Command) → refusal s c ≡ 0 → Begun (effect s c)
@@ -39,7 +40,7 @@ settled-wellFormed s c e =
 
 pub wellFormed-kept : WellFormedKept
 unfolding settled refused
-wellFormed-kept s c w = by-answer s c (λ a. WellFormed (a .state)) (settled-wellFormed s c) (λ h. w)
+wellFormed-kept s c w = by-answer s c (λ a. WellFormed (a .state)) (settled-wellFormed s c) (λ h. refused-wellFormed s c w)
 
 -- ---- cycles beyond those that a command takes
 

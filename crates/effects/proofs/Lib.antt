@@ -1,4 +1,4 @@
--- What an accepted command leaves: a consistent state that settles, and stays sound.
+-- What an accepted command leaves: a consistent state that settles, and stays sound; what a refused one hands back; the counts of both.
 pub mod Accepted
 pub mod Checked
 pub mod SourceEffects
@@ -6,5 +6,7 @@ pub mod CoreEffects
 pub mod Effects
 pub mod AtRest
 pub mod OneDelivery
+pub mod Dropped
+pub mod Counts
 pub mod Kept
 pub mod Answers

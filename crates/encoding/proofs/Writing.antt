@@ -30,12 +30,13 @@ module _ (b : List ℕ) (i : ℕ) where
   -- ---- a source, a core and an answer, from what each store and call leaves
 
   pub source-written :
-      (r : Source) (b₁ b₂ : List ℕ) (masked pending delivered : ℕ) →
+      (r : Source) (b₁ b₂ b₃ : List ℕ) (masked pending delivered : ℕ) →
       b₁ ≡ sets b i (word (r .configured)) →
       masked ≡ flagByte (r .masked) → pending ≡ flagByte (r .pending) → delivered ≡ flagByte (r .delivered) →
       b₂ ≡ sets (set (set (set b₁ (i + 2) masked) (i + 3) pending) (i + 4) delivered) (i + 5) (word (r .priority)) →
-      b₂ ≡ sets b i (sourceBytes r)
-  source-written r b₁ b₂ masked pending delivered e₁ em ep ed e₂ = rw (e₂, em, ep, ed, e₁) (simp towards-suc)
+      b₃ ≡ sets b₂ (i + 7) (word (r .dropped)) →
+      b₃ ≡ sets b i (sourceBytes r)
+  source-written r b₁ b₂ b₃ masked pending delivered e₁ em ep ed e₂ e₃ = rw (e₃, e₂, em, ep, ed, e₁) (simp towards-suc)
 
   pub core-written :
       (c : Core) (b₁ b₂ b₃ : List ℕ) (filled dirty : ℕ) →

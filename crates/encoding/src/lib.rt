@@ -16,6 +16,7 @@ use layout::BOX_SOURCE;
 use layout::CORE_SIZE;
 use layout::CORES_FROM;
 use layout::SOURCE_DELIVERED;
+use layout::SOURCE_DROPPED;
 use layout::SOURCE_MASKED;
 use layout::SOURCE_PENDING;
 use layout::SOURCE_PRIORITY;
@@ -61,6 +62,7 @@ fn put_source(b: &mut [u8], i: usize, r: Source)
     b[i + SOURCE_PENDING] = flag_byte(r.pending);
     b[i + SOURCE_DELIVERED] = flag_byte(r.delivered);
     put_word(b, i + SOURCE_PRIORITY, r.priority);
+    put_word(b, i + SOURCE_DROPPED, r.dropped);
 }
 
 fn put_core(b: &mut [u8], i: usize, c: Core)

@@ -47,7 +47,8 @@ octets-flag false o = next {x = 0} (omega arith) o
 octets-source : (r : Source) → SourceInWords r → Octets (sourceBytes r)
 octets-source r f =
     octets-word (f .configured)
-    (octets-flag (r .masked) (octets-flag (r .pending) (octets-flag (r .delivered) (octets-word (f .priority) none))))
+    (octets-flag (r .masked) (octets-flag (r .pending) (octets-flag (r .delivered)
+    (octets-word (f .priority) (octets-word (f .dropped) none)))))
 
 octets-core : (c : Core) → CoreInWords c → Octets (coreBytes c)
 octets-core c f =
@@ -78,7 +79,7 @@ module _ (b : List ℕ) (are : AreBytes b) where
   source-fits : (i : ℕ) → SourceInWords (sourceOf b i)
   source-fits i =
       let at : ℕ = sourcesFrom + sourceSize * i in
-      record { configured = is-word at; priority = is-word (at + 5) }
+      record { configured = is-word at; priority = is-word (at + 5); dropped = is-word (at + 7) }
 
   core-fits : (k : ℕ) → CoreInWords (coreOf b k)
   core-fits k =

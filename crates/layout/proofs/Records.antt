@@ -58,6 +58,7 @@ module _ (b rest : List ℕ) (at : ℕ) (r : Source) (e : drop at b ≡ sourceBy
         flag-there b v at e 3 (at + 3) refl (r .pending) refl,
         flag-there b v at e 4 (at + 4) refl (r .delivered) refl,
         word-there b v at e 5 (at + 5) refl (r .priority) refl refl,
+        word-there b v at e 7 (at + 7) refl (r .dropped) refl refl,
       )
 
   pub source-flagged : sourceFlags b at ≡ true
@@ -122,7 +123,7 @@ module _ (b : List ℕ) (are : (i : ℕ) → getD b i 0 < 256) where
     unfolding bytes
     word-part h = rw (part-bytes 2 b at h, low at, high at) (simp towards-suc)
 
-    pub source-part : at + 7 ≤ length b → sourceFlags b at ≡ true → sourceBytes (sourceFrom b at) ≡ take 7 (drop at b)
+    pub source-part : at + 9 ≤ length b → sourceFlags b at ≡ true → sourceBytes (sourceFrom b at) ≡ take 9 (drop at b)
     unfolding bytes
     source-part h f =
         let two : Bool = isFlagAt b (at + 2) && isFlagAt b (at + 3) in
@@ -130,7 +131,18 @@ module _ (b : List ℕ) (are : (i : ℕ) → getD b i 0 < 256) where
         let masked = flag-kept (at + 2) (and-l (isFlagAt b (at + 2)) (isFlagAt b (at + 3)) both) in
         let pending = flag-kept (at + 3) (and-r (isFlagAt b (at + 2)) (isFlagAt b (at + 3)) both) in
         let delivered = flag-kept (at + 4) (and-r two (isFlagAt b (at + 4)) f) in
-        rw (part-bytes 7 b at h, low at, high at, masked, pending, delivered, low (at + 5), high (at + 5)) (simp towards-suc)
+        rw (
+          part-bytes 9 b at h,
+          low at,
+          high at,
+          masked,
+          pending,
+          delivered,
+          low (at + 5),
+          high (at + 5),
+          low (at + 7),
+          high (at + 7),
+        ) (simp towards-suc)
 
     pub core-part : at + 8 ≤ length b → coreFlags b at ≡ true → coreBytes (coreFrom b at) ≡ take 8 (drop at b)
     unfolding bytes

@@ -1,6 +1,6 @@
 -- A state, commands and answers as bytes, for hosts. Definitions only. Assumes nothing.
 -- Numbers of 16 bits are two bytes, the lower first; a flag is one byte, 0 or 1. The page docs/ENCODING.md has the layout with an example.
---   stateBytes s        4 bytes of sizes, 128 sources of 7 bytes, 32 cores of 8 bytes: 1,156 in all
+--   stateBytes s        4 bytes of sizes, 128 sources of 9 bytes, 32 cores of 8 bytes: 1,412 in all
 --   isState b           b encodes a state: the length is right and each flag is 0 or 1; the state may still be unsound
 --   stateFrom b         that state
 --   commandBytes c      5 bytes: its number 0 to 7, the id or core, the priority
@@ -50,7 +50,7 @@ isFlagAt b i = leb (getD b i 0) 1
 -- ---- a state
 
 abbrev pub sourceSize : ℕ
-sourceSize = 7
+sourceSize = 9
 
 abbrev pub coreSize : ℕ
 coreSize = 8
@@ -68,7 +68,7 @@ stateSize = coresFrom + coreSize * maxCores
 abbrev pub sourceBytes : Source → List ℕ
 sourceBytes r =
     word (r .configured) ++
-    (flagByte (r .masked) ∷ flagByte (r .pending) ∷ flagByte (r .delivered) ∷ word (r .priority))
+    (flagByte (r .masked) ∷ flagByte (r .pending) ∷ flagByte (r .delivered) ∷ (word (r .priority) ++ word (r .dropped)))
 
 abbrev pub coreBytes : Core → List ℕ
 coreBytes c =
@@ -79,7 +79,8 @@ unfoldable pub stateBytes : Controller → List ℕ
 stateBytes s = word (s .n) ++ (word (s .m) ++ (joined sourceBytes (s .sources) ++ joined coreBytes (s .cores)))
 
 abbrev pub sourceFrom : List ℕ → ℕ → Source
-sourceFrom b i = sourceWith (wordAt b i) (flagAt b (i + 2)) (flagAt b (i + 3)) (flagAt b (i + 4)) (wordAt b (i + 5))
+sourceFrom b i =
+    sourceWith (wordAt b i) (flagAt b (i + 2)) (flagAt b (i + 3)) (flagAt b (i + 4)) (wordAt b (i + 5)) (wordAt b (i + 7))
 
 abbrev pub coreFrom : List ℕ → ℕ → Core
 coreFrom b i =

@@ -20,12 +20,12 @@ times (suc k) part = part ++ times k part
 
 -- ---- records and states
 
--- "+0 configured priority, +2 masked, +3 pending, +4 delivered, +5 the request's priority"
+-- "+0 configured priority, +2 masked, +3 pending, +4 delivered, +5 the request's priority, +7 dropped triggers"
 abbrev pub SourceCases : Type 0
 SourceCases =
-    (sourceBytes (sourceWith 1 false true true 1) ≡ 1 ∷ 0 ∷ 0 ∷ 1 ∷ 1 ∷ 1 ∷ 0 ∷ []) ×
-    (sourceBytes (sourceWith 511 true false false 258) ≡ 255 ∷ 1 ∷ 1 ∷ 0 ∷ 0 ∷ 2 ∷ 1 ∷ []) ×
-    (sourceBytes (sourceWith 1 false true false 0) ≡ 1 ∷ 0 ∷ 0 ∷ 1 ∷ 0 ∷ 0 ∷ 0 ∷ [])
+    (sourceBytes (sourceWith 1 false true true 1 65534) ≡ 1 ∷ 0 ∷ 0 ∷ 1 ∷ 1 ∷ 1 ∷ 0 ∷ 254 ∷ 255 ∷ []) ×
+    (sourceBytes (sourceWith 511 true false false 258 3) ≡ 255 ∷ 1 ∷ 1 ∷ 0 ∷ 0 ∷ 2 ∷ 1 ∷ 3 ∷ 0 ∷ []) ×
+    (sourceBytes (sourceWith 1 false true false 0 0) ≡ 1 ∷ 0 ∷ 0 ∷ 1 ∷ 0 ∷ 0 ∷ 0 ∷ 0 ∷ 0 ∷ [])
 
 -- "+0 configured priority, +2 box filled, +3 box dirty, +4 box source id, +6 box priority"
 abbrev pub CoreCases : Type 0
@@ -36,7 +36,7 @@ CoreCases =
 -- "A fresh controller of 2 sources and 1 core", and sizes that take two bytes each
 abbrev pub StateCases : Type 0
 StateCases =
-    (stateBytes (reset 2 1) ≡ 2 ∷ 0 ∷ 1 ∷ 0 ∷ (times 128 (1 ∷ 0 ∷ 1 ∷ 0 ∷ 0 ∷ 0 ∷ 0 ∷ []) ++ times 256 (0 ∷ []))) ×
+    (stateBytes (reset 2 1) ≡ 2 ∷ 0 ∷ 1 ∷ 0 ∷ (times 128 (1 ∷ 0 ∷ 1 ∷ 0 ∷ 0 ∷ 0 ∷ 0 ∷ 0 ∷ 0 ∷ []) ++ times 256 (0 ∷ []))) ×
     (stateBytes (controllerWith 258 769 [] []) ≡ 2 ∷ 1 ∷ 1 ∷ 3 ∷ [])
 
 -- ---- commands and answers
@@ -78,7 +78,7 @@ abbrev pub freshBytes : List ℕ
 freshBytes = stateBytes (reset 2 1)
 
 abbrev pub otherBytes : List ℕ
-otherBytes = times 1156 (9 ∷ [])
+otherBytes = times 1412 (9 ∷ [])
 
 -- what is refused writes nothing: another length, sizes out of range, a number above 7, bytes that encode no state
 abbrev pub CallCases : Type 0

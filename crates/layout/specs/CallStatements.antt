@@ -1,11 +1,13 @@
 -- What is claimed of the calls on bytes, as propositions over what they answer and write. Assumes nothing.
--- Source: demands 1 and 3.
+-- Source: demands 1 and 3; document 02, request 7.
 --   ExecuteTells                             number, id and cycles of a command are read back from what its call answers
---   RefusedMakeKeeps, RefusedExecuteKeeps    an answer other than 0, that for unreadable bytes too, leaves the lent bytes as they were
+--   RefusedMakeKeeps, RefusedExecuteKeeps    an answer other than 0, that for unreadable bytes too, leaves the lent bytes as they were;
+--                                            of a command, other than 6 too
 --   RefusedRunKeeps                          a list that is not run leaves the state and the answers as they were
---   AllRefusedKeeps                          a list whose commands are all refused leaves the state's bytes as they were
+--   AllRefusedKeeps                          a list whose commands are all refused, none by 6, leaves the state's bytes as they were
 --   RunKeepsRest                             the answers keep their length, and what stands behind those written
---   RunStrict, ListStrict                    demand 3, the ledger kept from the answers' bytes: of any bytes, and of any list of commands
+--   RunStrict, ListStrict                    demand 3 and the counts of dropped triggers, the ledger kept from the answers' bytes: of any
+--                                            bytes, and of any list of commands
 --   CallsStrict                              the same of any list of commands that are called one by one
 use Prim.Native.Nat.{ℕ, _+_, _*_, _^_, _<_, _≤_}
 use mathlib.Core.Path.{_≡_}
@@ -15,13 +17,13 @@ use mathlib.Core.Bool.{true}
 use lib.ListN.{length, getD, drop}
 use Rattle.model.specs.declared.Command.{Command}
 use Rattle.model.specs.declared.Decoded.the-variants.{Known}
-use Rattle.model.specs.Commands.{execute}
+use Rattle.model.specs.Commands.{alreadyPending, execute}
 use Rattle.model.specs.Ledger.{Entry, entryWith, opening, ledger}
 use Rattle.layout.specs.Commands.{commandOf, numberOf, targetOf, levelOf}
 use Rattle.layout.specs.Bytes.{wordAt, stateSize, stateFrom, isState, commandBytes, commandsIn, answerSize, entriesIn, numberIn, idIn}
 use Rattle.layout.specs.Bytes.{cyclesIn, Call, makeCall, executeCall, RunCall, noCount, roomFor, runCall}
 use Rattle.lists.specs.Rows.{joined}
-use Rattle.model.specs.Statements.{InRange, PriorityStrict}
+use Rattle.model.specs.Statements.{InRange, PriorityStrict, CountsDrops}
 use Rattle.layout.specs.Statements.{AreBytes}
 
 -- ---- answers and refusals
@@ -39,8 +41,9 @@ ExecuteTells =
 
 abbrev pub RefusedExecuteKeeps : Type 0
 RefusedExecuteKeeps =
-    (number at p : ℕ) (b : List ℕ) → AreBytes b → numberIn ((executeCall number at p b) .result) ≢ 0 →
-    (executeCall number at p b) .bytes ≡ b
+    (number at p : ℕ) (b : List ℕ) → AreBytes b →
+    let told = numberIn ((executeCall number at p b) .result) in
+    told ≢ 0 → told ≢ alreadyPending → (executeCall number at p b) .bytes ≡ b
 
 -- A slice is shorter than 2^64, so that no count of commands is `noCount`.
 abbrev pub RefusedRunKeeps : Type 0
@@ -52,7 +55,9 @@ RefusedRunKeeps =
 abbrev pub AllRefusedKeeps : Type 0
 AllRefusedKeeps =
     (b list answers : List ℕ) → AreBytes b →
-    ((i : ℕ) → i < (runCall b list answers) .result → getD ((runCall b list answers) .answers) (answerSize * i) 0 ≢ 0) →
+    ((i : ℕ) → i < (runCall b list answers) .result →
+    let told = getD ((runCall b list answers) .answers) (answerSize * i) 0 in
+    (told ≢ 0) × (told ≢ alreadyPending)) →
     (runCall b list answers) .bytes ≡ b
 
 -- Of the answers lent, the length and what stands behind those written.
@@ -73,6 +78,8 @@ pub record Strict (n m : ℕ) (cs : List Command) (ran : RunCall) : Type 0 where
   pub taken : ran .result ≡ length cs
   -- the state that the bytes encode, held against the ledger of the commands and of the answers' bytes
   pub strict : PriorityStrict n m (ledger opening (entriesIn cs (ran .answers))) (stateFrom (ran .bytes))
+  -- each source's count of dropped triggers, held against the same commands and answers
+  pub counted : CountsDrops (entriesIn cs (ran .answers)) (stateFrom (ran .bytes))
   -- no answer's bytes tell more than 2m cycles
   pub cycles : (i : ℕ) → i < length cs → wordAt (ran .answers) (answerSize * i + 3) ≤ 2 * m
 
@@ -113,4 +120,5 @@ abbrev pub CallsStrict : Type 0
 CallsStrict =
     (n m : ℕ) (b : List ℕ) (cs : List Command) → InRange n m → length b ≡ stateSize →
     let fresh = (makeCall n m b) .bytes in
-    PriorityStrict n m (ledger opening (toldByCalls fresh cs)) (stateFrom (afterCalls fresh cs))
+    PriorityStrict n m (ledger opening (toldByCalls fresh cs)) (stateFrom (afterCalls fresh cs)) ×
+    CountsDrops (toldByCalls fresh cs) (stateFrom (afterCalls fresh cs))

@@ -33,6 +33,7 @@ IsWord x = x < 2 ^ 16
 pub record SourceInWords (r : Source) : Type 0 where
   pub configured : IsWord (r .configured)
   pub priority : IsWord (r .priority)
+  pub dropped : IsWord (r .dropped)
 
 pub record CoreInWords (c : Core) : Type 0 where
   pub configured : IsWord (c .configured)

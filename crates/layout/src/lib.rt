@@ -12,7 +12,9 @@ pub const SOURCE_DELIVERED: usize = SOURCE_PENDING + 1;
 
 pub const SOURCE_PRIORITY: usize = SOURCE_DELIVERED + 1;
 
-pub const SOURCE_SIZE: usize = SOURCE_PRIORITY + 2;
+pub const SOURCE_DROPPED: usize = SOURCE_PRIORITY + 2;
+
+pub const SOURCE_SIZE: usize = SOURCE_DROPPED + 2;
 
 // The fields of a core's box, behind the word of the core's configured priority, and all bytes of a core.
 pub const BOX_FILLED: usize = 2;

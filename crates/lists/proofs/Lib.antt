@@ -1,6 +1,7 @@
 -- Laws over any list, order, count or walk.
 pub mod Depth
 pub mod Bools
+pub mod Held
 pub mod Walks
 pub mod Tallies
 pub mod Ranges

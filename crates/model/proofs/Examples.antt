@@ -22,7 +22,7 @@ use Rattle.model.specs.WellFormed.{candidatesSettled, coveredSettled, fr
 use Rattle.model.specs.Settling.{retract, deliver, firstDirty, arbitrate, next, cycle, settle, countOf, cyclesOf}
 use Rattle.model.specs.Commands.{effect, refusalOf, refusal, answeredId, settled, refused, execute, run}
 use Rattle.lists.specs.Rows.{gather}
-use Rattle.model.specs.Cases.{numbered, start, setUp, answersAs, passes, allPass, marked, further, apart, asked}
+use Rattle.model.specs.Cases.{numbered, start, setUp, answersAs, passes, allPass, marked, further, apart, asked, allCounted, dropCases}
 
 -- To open this name is to open every definition that a run computes with.
 unfoldable pub computed : Controller → List Command → Controller
@@ -44,6 +44,10 @@ further-pass = refl
 pub asked-pass : allPass apart asked ≡ true
 unfolding computed apart asked
 asked-pass = refl
+
+pub drops-counted : allCounted dropCases ≡ true
+unfolding computed allCounted dropCases
+drops-counted = refl
 
 pub start-set-up : run (reset 32 2) (setUp 32) ≡ start
 unfolding computed setUp

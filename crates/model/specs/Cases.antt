@@ -3,6 +3,7 @@
 --   start           n = 32, m = 2, every source unmasked with priority equal to its id
 --   apart           a sound state in which a request's priority isn't its source's; no list of commands leads there from start
 --   passes s c      whether the definitions answer from s as the case says
+--   dropCases       what is counted as dropped, and what isn't
 use Prim.Native.Nat.{ℕ, zero, suc}
 use mathlib.Core.List.{List, [], _∷_, _++_}
 use mathlib.Core.Bool.{Bool, true, false, _&&_}
@@ -13,8 +14,8 @@ use Rattle.model.specs.declared.Command.{Command}
 use Rattle.model.specs.declared.Command.the-variants.{OnSource, OnCore}
 use Rattle.model.specs.declared.SourceAction.the-variants.{SetSourcePriority, Mask, Unmask, Trigger, Redeliver, Complete}
 use Rattle.model.specs.declared.CoreAction.the-variants.{SetCorePriority, Claim}
-use Rattle.model.specs.Records.{sourceId, coreId, sourceWith, sourceAt, coreAt, withConfigured, withMask, withSource, resetSource}
-use Rattle.model.specs.Records.{reset}
+use Rattle.model.specs.Records.{sourceId, coreId, sourceWith, sourceAt, coreAt, withConfigured, withMask, withDropped, withSource}
+use Rattle.model.specs.Records.{resetSource, reset}
 use Rattle.model.specs.Requests.{waiting, holds, claimed, Owner, bySource, byBox, bySoftware}
 use Rattle.model.specs.Commands.{execute, run}
 use Rattle.model.specs.Ledger.{currentPriorities}
@@ -223,7 +224,7 @@ further =
 -- T10 with source 4 at 9 under its request of 4, which set source priority refuses.
 unfoldable pub apart : Controller
 unfolding corePriority trigger
-apart = withSource (run start (corePriority 0 4 ∷ corePriority 1 4 ∷ trigger 4 ∷ [])) 3 (sourceWith 9 false true false 4)
+apart = withSource (run start (corePriority 0 4 ∷ corePriority 1 4 ∷ trigger 4 ∷ [])) 3 (sourceWith 9 false true false 4 0)
 
 -- Sound, so commands are accepted, and the request's own priority counts: 4 waits on; delivered, its core shows 4.
 unfoldable pub asked : List Case
@@ -233,4 +234,44 @@ asked =
     case [] (unmask 4) 0 0 0 4 4 (waits 4 ∷ []) ∷
     case [] (corePriority 1 0) 0 0 1 4 4 (inBox 4 1 ∷ []) ∷
     case [] (sourcePriority 4 4) 9 0 0 4 4 (waits 4 ∷ []) ∷
+    []
+
+-- ---- dropped triggers: document 02, request 7
+
+-- Commands from the start state with so many triggers of source 4 dropped already, and the counts of sources 3, 4 and 5 after them.
+pub record DropCase : Type 0 where
+  pub already : ℕ
+  pub commands : List Command
+  pub counts : List ℕ
+
+abbrev pub fourDropped : ℕ → Controller
+fourDropped x = withSource start 3 (withDropped x (sourceAt start 3))
+
+abbrev pub countsOf : Controller → List ℕ
+countsOf s = (sourceAt s 2) .dropped ∷ (sourceAt s 3) .dropped ∷ (sourceAt s 4) .dropped ∷ []
+
+unfoldable pub allCounted : List DropCase → Bool
+allCounted [] = true
+allCounted (d ∷ ds) = sameNumbers (countsOf (run (fourDropped (d .already)) (d .commands))) (d .counts) && allCounted ds
+
+-- What is counted of source 4.
+drop : ℕ → List Command → ℕ → DropCase
+drop already commands count = record { already = already; commands = commands; counts = 0 ∷ count ∷ 0 ∷ [] }
+
+unfoldable pub dropCases : List DropCase
+unfolding drop sourcePriority mask unmask corePriority trigger claim redeliver complete
+dropCases =
+    -- in a box, waiting masked, claimed
+    drop 0 (trigger 4 ∷ trigger 4 ∷ []) 1 ∷
+    drop 0 (mask 4 ∷ trigger 4 ∷ trigger 4 ∷ trigger 4 ∷ []) 2 ∷
+    drop 0 (trigger 4 ∷ claim 0 ∷ trigger 4 ∷ []) 1 ∷
+    -- what is accepted leaves it: redeliver, complete, set source priority, a new trigger
+    drop 7 (trigger 4 ∷ claim 0 ∷ redeliver 4 ∷ claim 1 ∷ complete 4 ∷ sourcePriority 4 9 ∷ trigger 4 ∷ corePriority 0 31 ∷ []) 7 ∷
+    -- so does every other refusal: 8, 8, 9, 4, 4, 5, 7
+    drop 0
+    (mask 4 ∷ trigger 4 ∷ complete 4 ∷ redeliver 4 ∷ sourcePriority 4 4 ∷ trigger 0 ∷ trigger 33 ∷ sourcePriority 4 0 ∷ claim 0 ∷ []) 0 ∷
+    -- held at 65,535
+    drop 65533 (trigger 4 ∷ trigger 4 ∷ []) 65534 ∷
+    drop 65534 (trigger 4 ∷ trigger 4 ∷ []) 65535 ∷
+    drop 65535 (trigger 4 ∷ trigger 4 ∷ trigger 4 ∷ []) 65535 ∷
     []

@@ -1,8 +1,10 @@
 -- Making a controller, the eight commands, and the run of a list of them. Definitions only. Assumes nothing.
--- Source: document 01, "Eight commands" and "Numbers for no"; number 9 is document 02's, request 5.
+-- Source: document 01, "Eight commands" and "Numbers for no"; number 9 is document 02's, request 5, and the count of dropped triggers,
+-- request 7.
 --   effect s c      what command c does before settling
 --   refusal s c     the number for no, 0 for none: the checks of each command in their order
---   execute s c     the whole command, on any state: a refused one hands back the state it was given, id 0 and 0 cycles
+--   execute s c     the whole command, on any state: a refused one hands back the state it was given, id 0 and 0 cycles; a trigger
+--                   refused by 6 hands it back with one more dropped trigger at its source
 --   make n m        a fresh controller, or refusal 2 with the fresh one of sizes (1, 1)
 --   run s cs        the state after a list of commands, refused ones included
 use Prim.Native.Nat.{ℕ, _*_}
@@ -23,7 +25,7 @@ use Rattle.model.specs.declared.SourceAction.the-variants.{SetSourcePrio
 use Rattle.model.specs.declared.CoreAction.{CoreAction}
 use Rattle.model.specs.declared.CoreAction.the-variants.{SetCorePriority, Claim}
 use Rattle.model.specs.Records.{indexOf, withConfigured, withMask, withDelivered, opened, ended, emptyBox, dirtied, coreWith, noCore}
-use Rattle.model.specs.Records.{sourceAt, coreAt, withCores, withSource, reset, answer}
+use Rattle.model.specs.Records.{droppedOne, sourceAt, coreAt, withCores, withSource, reset, answer}
 use Rattle.model.specs.Priorities.{topPriority}
 use Rattle.model.specs.Requests.{claimed}
 use Rattle.lists.specs.Numbers.{between}
@@ -133,9 +135,14 @@ answeredId s (OnCore k Claim) = (coreAt s (k .0)) .message .source .0
 unfoldable pub settled : Controller → ℕ → Answer
 settled s id = answer (settle (2 * s .m) s) 0 id (cyclesOf (2 * s .m) s)
 
--- What a command that is refused by a number hands back: the state it was given.
+-- One more trigger of the named source is dropped.
+abbrev pub dropCounted : Controller → Command → Controller
+dropCounted s (OnSource id a) = withSource s (indexOf id) (droppedOne (sourceAt s (indexOf id)))
+dropCounted s (OnCore k a) = s
+
+-- What a command that is refused by a number hands back: the state it was given; by 6, with that count.
 abbrev pub afterRefusal : Controller → Command → ℕ → Controller
-afterRefusal s c number = s
+afterRefusal s c number = cond (eqb number alreadyPending) (dropCounted s c) s
 
 unfoldable pub refused : Controller → Command → ℕ → Answer
 refused s c number = answer (afterRefusal s c number) number 0 0

@@ -8,6 +8,7 @@
 --   Behaviours    any answer to commands in the place of `execute`, and what a list of commands gives by it
 --   Commands      effects, refusals, answers, making, and the run of a list of commands
 --   Ledger        the ledger kept from commands and their answers; collection, placement, sorting
+--   Drops         triggers that were dropped, counted from commands and answers
 --   Statements    what is claimed of all this, as propositions; their proofs are in the crates above this one
 --   SearchStatements   what is claimed of the ranges that the search looks into
 --   Cases         the worked cases of document 01's table of runs
@@ -22,6 +23,7 @@ pub mod Settling
 pub mod Behaviours
 pub mod Commands
 pub mod Ledger
+pub mod Drops
 pub mod Statements
 pub mod SearchStatements
 pub mod Cases

@@ -9,6 +9,7 @@ use Prim.Native.Nat.{ℕ, pred}
 use mathlib.Core.List.{List, map}
 use mathlib.Core.Bool.{Bool, true, false}
 use lib.ListN.{getD, set, replicate}
+use Rattle.lists.specs.Numbers.{oneMoreUpTo}
 use Rattle.model.specs.declared.SourceId.{SourceId}
 use Rattle.model.specs.declared.CoreId.{CoreId}
 use Rattle.model.specs.declared.Source.{Source}
@@ -42,32 +43,49 @@ indexOf id = pred (id .0)
 
 -- ---- a source
 
-abbrev pub sourceWith : ℕ → Bool → Bool → Bool → ℕ → Source
-sourceWith configured masked pending delivered priority =
-    record { configured = configured; masked = masked; pending = pending; delivered = delivered; priority = priority }
+abbrev pub sourceWith : ℕ → Bool → Bool → Bool → ℕ → ℕ → Source
+sourceWith configured masked pending delivered priority dropped =
+    record {
+      configured = configured;
+      masked = masked;
+      pending = pending;
+      delivered = delivered;
+      priority = priority;
+      dropped = dropped;
+    }
 
 abbrev pub noSource : Source
-noSource = sourceWith 0 false false false 0
+noSource = sourceWith 0 false false false 0 0
 
 abbrev pub resetSource : Source
-resetSource = sourceWith 1 true false false 0
+resetSource = sourceWith 1 true false false 0 0
 
 abbrev pub withConfigured : ℕ → Source → Source
-withConfigured p r = sourceWith p (r .masked) (r .pending) (r .delivered) (r .priority)
+withConfigured p r = sourceWith p (r .masked) (r .pending) (r .delivered) (r .priority) (r .dropped)
 
 abbrev pub withMask : Bool → Source → Source
-withMask b r = sourceWith (r .configured) b (r .pending) (r .delivered) (r .priority)
+withMask b r = sourceWith (r .configured) b (r .pending) (r .delivered) (r .priority) (r .dropped)
 
 abbrev pub withDelivered : Bool → Source → Source
-withDelivered b r = sourceWith (r .configured) (r .masked) (r .pending) b (r .priority)
+withDelivered b r = sourceWith (r .configured) (r .masked) (r .pending) b (r .priority) (r .dropped)
 
 -- a new request, at the source's priority
 abbrev pub opened : Source → Source
-opened r = sourceWith (r .configured) (r .masked) true false (r .configured)
+opened r = sourceWith (r .configured) (r .masked) true false (r .configured) (r .dropped)
 
 -- no request any more
 abbrev pub ended : Source → Source
-ended r = sourceWith (r .configured) (r .masked) false false 0
+ended r = sourceWith (r .configured) (r .masked) false false 0 (r .dropped)
+
+-- Document 02, request 7: one more trigger dropped, the count "held at 65,535".
+abbrev pub mostDropped : ℕ
+mostDropped = 65535
+
+abbrev pub withDropped : ℕ → Source → Source
+withDropped x r = sourceWith (r .configured) (r .masked) (r .pending) (r .delivered) (r .priority) x
+
+abbrev pub droppedOne : Source → Source
+droppedOne r = withDropped (oneMoreUpTo mostDropped (r .dropped)) r
 
 -- ---- a core and its message box
 

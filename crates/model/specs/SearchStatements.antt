@@ -49,11 +49,11 @@ RangesBounded = (l : List Source) (n : ℕ) → rangesWith l n ≤ (comparisons 
 -- Sources 1 and 5 of five are candidates, one of them at priority 0; a masked, a delivered and an idle source are none.
 abbrev pub twoOfFive : List Source
 twoOfFive =
-    sourceWith 1 false true false 0 ∷
-    sourceWith 1 true true false 9 ∷
-    sourceWith 1 false true true 9 ∷
-    sourceWith 1 false false false 0 ∷
-    sourceWith 1 false true false 3 ∷ []
+    sourceWith 1 false true false 0 0 ∷
+    sourceWith 1 true true false 9 0 ∷
+    sourceWith 1 false true true 9 0 ∷
+    sourceWith 1 false false false 0 0 ∷
+    sourceWith 1 false true false 3 0 ∷ []
 
 -- (0, 5), (0, 3), (0, 2), (0, 1), (3, 2), (4, 1); of the first four sources (0, 4), (0, 2), (0, 1); of none no range.
 pub record RangesOfFive : Type 0 where

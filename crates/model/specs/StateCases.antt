@@ -117,13 +117,13 @@ holdsAt configured id p = boxAt configured true false id p
 
 -- A source of priority 5 whose request is delivered; one that has no request; one whose request waits.
 abbrev deliveredAt : ℕ → Source
-deliveredAt p = sourceWith 5 false true true p
+deliveredAt p = sourceWith 5 false true true p 0
 
 abbrev idleAt : ℕ → Source
-idleAt configured = sourceWith configured false false false 0
+idleAt configured = sourceWith configured false false false 0 0
 
 abbrev waitingAt : ℕ → Source
-waitingAt p = sourceWith 5 false true false p
+waitingAt p = sourceWith 5 false true false p 0
 
 abbrev threeSources : Controller
 threeSources = withSource (withSource (withSource (reset 3 2) 0 (deliveredAt 3)) 1 (deliveredAt 3)) 2 (idleAt 1)
@@ -162,15 +162,17 @@ sizeCases =
     differ lists (withSources calm (calm .sources ++ (resetSource ∷ []))) calm ∷
     differ lists (withCores calm (calm .cores ++ (resetCore ∷ []))) calm ∷ []
 
--- Configured source and pending request priorities 1 to top; not pending: delivered is off and the request's priority is 0.
+-- Configured source and pending request priorities 1 to top; not pending: delivered is off and the request's priority is 0. Any count
+-- of dropped triggers.
 abbrev sourceCases : List StateCase
 sourceCases =
     atSource sources 2 (idleAt 0) (idleAt 1) ∷
     atSource sources 2 (idleAt 8) (idleAt 7) ∷
     atSource sources 1 (deliveredAt 0) (deliveredAt 1) ∷
     atSource sources 1 (deliveredAt 8) (deliveredAt 7) ∷
-    atSource sources 2 (sourceWith 1 false false true 0) (idleAt 1) ∷
-    atSource sources 2 (sourceWith 1 false false false 1) (idleAt 1) ∷ []
+    atSource sources 2 (sourceWith 1 false false true 0 0) (idleAt 1) ∷
+    atSource sources 2 (sourceWith 1 false false false 1 0) (idleAt 1) ∷
+    atSource sources 2 (sourceWith 0 false false false 0 65535) (sourceWith 1 false false false 0 65535) ∷ []
 
 -- Core priorities 0 to top; an empty box has id 0, priority 0 and isn't dirty, which is also the clause that no box is.
 abbrev coreCases : List StateCase
@@ -183,17 +185,19 @@ coreCases =
 -- Records past n or m are kept as fresh ones: each field of source 4 and of core 2, and the last records of all.
 abbrev spareCases : List StateCase
 spareCases =
-    spareSource (sourceWith 2 true false false 0) ∷
-    spareSource (sourceWith 1 false false false 0) ∷
-    spareSource (sourceWith 1 true true false 0) ∷
-    spareSource (sourceWith 1 true false true 0) ∷
-    spareSource (sourceWith 1 true false false 1) ∷
+    spareSource (sourceWith 2 true false false 0 0) ∷
+    spareSource (sourceWith 1 false false false 0 0) ∷
+    spareSource (sourceWith 1 true true false 0 0) ∷
+    spareSource (sourceWith 1 true false true 0 0) ∷
+    spareSource (sourceWith 1 true false false 1 0) ∷
+    spareSource (sourceWith 1 true false false 0 1) ∷
+    spareSource (sourceWith 1 true false false 0 65535) ∷
     spareCore (emptyAt 1) ∷
     spareCore (boxAt 0 true false 0 0) ∷
     spareCore (boxAt 0 false true 0 0) ∷
     spareCore (boxAt 0 false false 1 0) ∷
     spareCore (boxAt 0 false false 0 1) ∷
-    atSource spares 127 (sourceWith 2 true false false 0) resetSource ∷ atCore spares 31 (emptyAt 1) resetCore ∷ []
+    atSource spares 127 (sourceWith 2 true false false 0 0) resetSource ∷ atCore spares 31 (emptyAt 1) resetCore ∷ []
 
 -- A filled box names a source, which neither id 0 nor id 4 does, that is pending and delivered, with the same priority, strictly above
 -- its core's configured priority, which is also the last clause for that core.
@@ -213,7 +217,7 @@ settledCases =
     atCore distinct 1 (holdsAt 2 1 3) (holdsAt 2 2 3) ∷
     atCore clean 0 (boxAt 2 true true 1 3) (holdsAt 2 1 3) ∷
     atSource candidates 2 (waitingAt 4) (waitingAt 3) ∷
-    atSource candidates 2 (waitingAt 4) (sourceWith 5 true true false 4) ∷ atCore covered 1 (emptyAt 1) (emptyAt 2) ∷ []
+    atSource candidates 2 (waitingAt 4) (sourceWith 5 true true false 4 0) ∷ atCore covered 1 (emptyAt 1) (emptyAt 2) ∷ []
 
 -- Requests of 3 and 4 in both boxes, the second over a core at the priority given.
 abbrev bothFilled : ℕ → Controller
@@ -222,8 +226,8 @@ bothFilled configured = withCore (withSource calm 1 (deliveredAt 4)) 1 (holdsAt 
 -- Cores at 3 and 1, and requests of 3 and 9, as document 02 has them: source 3's request with the delivered mark given, and the cores.
 abbrev threeAndNine : Bool → Core → Core → Controller
 threeAndNine delivered first second =
-    let sources : Controller = withSource (withSource (reset 9 2) 2 (sourceWith 3 false true delivered 3)) 8
-    (sourceWith 9 false true true 9) in
+    let sources : Controller = withSource (withSource (reset 9 2) 2 (sourceWith 3 false true delivered 3 0)) 8
+    (sourceWith 9 false true true 9 0) in
     withCore (withCore sources 0 first) 1 second
 
 -- Each configured priority under a filled box is below every filled box's priority: another core's box refuses 3 under it at 3. And
@@ -242,7 +246,7 @@ unfoldable pub boxParts : List Bool
 boxParts =
     backedBy 3 (holdsAt 2 3 3) (deliveredAt 3) ∷
     not (backedBy 3 (holdsAt 2 4 3) (deliveredAt 3)) ∷
-    not (backedBy 3 (holdsAt 2 3 3) (sourceWith 5 false false true 3)) ∷ []
+    not (backedBy 3 (holdsAt 2 3 3) (sourceWith 5 false false true 3 0)) ∷ []
 
 -- ---- fresh
 

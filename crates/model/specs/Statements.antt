@@ -1,7 +1,7 @@
 -- What is claimed of the definitions. Propositions only; each is proved in a crate above this one. Assumes nothing.
 -- Source: the three demands, and document 01 in its order. docs/THEOREMS.md names the proof of each.
 -- A statement over any `Behaviour` is proved of `execute`, and refuted of document 01's dummies.
-use Prim.Native.Nat.{ℕ, suc, _+_, _*_, _^_, _<_, _≤_}
+use Prim.Native.Nat.{ℕ, suc, _+_, _*_, _^_, _<_, _≤_, min}
 use mathlib.Core.Path.{_≡_}
 use mathlib.Core.Logic.{_↔_, _≢_}
 use mathlib.Core.List.{List}
@@ -25,15 +25,17 @@ use Rattle.model.specs.declared.SourceAction.the-variants.{SetSourcePrio
 use Rattle.model.specs.declared.CoreAction.{CoreAction}
 use Rattle.model.specs.declared.CoreAction.the-variants.{SetCorePriority, Claim}
 use Rattle.model.specs.Records.{maxSources, maxCores, noSource, noCore, sourceId, indexOf, sourceWith, boxWith, coreWith, sourceAt}
-use Rattle.model.specs.Records.{coreAt, bare, reset, answer}
+use Rattle.model.specs.Records.{mostDropped, coreAt, bare, reset, answer}
 use Rattle.model.specs.Priorities.{floorLog2, topPriority}
 use Rattle.model.specs.Requests.{currentPriority, candidate, claimed, Owner, Owns}
 use Rattle.model.specs.Arbitration.{higher, highest, highestByWalk, highestId, lower, least}
 use Rattle.model.specs.Settling.{deliver, interruptedBy, next, settle, isRetraction, isDelivery, countOf, cyclesOf}
 use Rattle.model.specs.Commands.{effect, malformed, badCore, badSource, badPriority, alreadyPending, nothingToClaim, notClaimed}
-use Rattle.model.specs.Commands.{priorityInUse, refusal, afterRefusal, execute, make}
-use Rattle.model.specs.Ledger.{Ledger, noRequest, opening, ledger, collection, Placement, given, inBoxes, requestPriority}
+use Rattle.model.specs.Commands.{priorityInUse, refusal, dropCounted, execute, make}
+use Rattle.model.specs.Ledger.{Ledger, Entry, noRequest, opening, ledger, collection, Placement, given, inBoxes, requestPriority}
 use Rattle.model.specs.Ledger.{currentPriorities, placedBy, filledBoxes, entriesBy}
+use Rattle.model.specs.Drops.{drops, dropsIn}
+use Rattle.lists.specs.Numbers.{oneMoreUpTo}
 use Rattle.lists.specs.Rows.{row}
 use Rattle.lists.specs.Sorting.{sortDown}
 use Rattle.model.specs.Behaviours.{Behaviour, runBy}
@@ -193,7 +195,8 @@ abbrev pub changed : {A : Type 0} → Change A → A → A
 changed keep old = old
 changed (becomes value) old = value
 
--- The columns of a source: configured priority, mask, pending, delivered, and the request's priority.
+-- The columns of a source: configured priority, mask, pending, delivered, and the request's priority. No row has the count of dropped
+-- triggers.
 abbrev pub sourceBy : Change ℕ → Change Bool → Change Bool → Change Bool → Change ℕ → Source → Source
 sourceBy configured masked pending delivered priority r =
     sourceWith
@@ -202,6 +205,7 @@ sourceBy configured masked pending delivered priority r =
     (changed pending (r .pending))
     (changed delivered (r .delivered))
     (changed priority (r .priority))
+    (r .dropped)
 
 -- The columns of a core: configured priority; of its box: filled, dirty, id, and priority.
 abbrev pub coreBy : Change ℕ → Change Bool → Change Bool → Change ℕ → Change ℕ → Core → Core
@@ -368,7 +372,31 @@ RefusalsExact x = (s : Controller) (c : Command) → Refusals ((x s c) .number) 
 abbrev pub RefusalAnswered : Type 0
 RefusalAnswered = (s : Controller) (c : Command) → (execute s c) .number ≡ refusal s c
 
--- A refused command hands back the state given, id 0 and 0 cycles.
+-- A command refused by a number other than 6 hands back the state given, id 0 and 0 cycles.
 abbrev pub RefusedUnchanged : Behaviour → Type 0
 RefusedUnchanged x =
-    (s : Controller) (c : Command) → (x s c) .number ≢ 0 → x s c ≡ answer (afterRefusal s c ((x s c) .number)) ((x s c) .number) 0 0
+    (s : Controller) (c : Command) → (x s c) .number ≢ 0 → (x s c) .number ≢ alreadyPending →
+    x s c ≡ answer s ((x s c) .number) 0 0
+
+-- ---- dropped triggers: document 02, request 7
+
+-- "The one refusal that now alters a state, in that count only": what 6 hands back is the state given with one more at the source named.
+abbrev pub DroppedCounted : Behaviour → Type 0
+DroppedCounted x =
+    (s : Controller) (c : Command) → (x s c) .number ≡ alreadyPending → x s c ≡ answer (dropCounted s c) alreadyPending 0 0
+
+-- Of every command on every state, and of every source: the count is one more, held, exactly if a trigger of it is answered by 6, else
+-- as before. No accepted command changes a count, nor does settling.
+abbrev pub DroppedChanges : Behaviour → Type 0
+DroppedChanges x =
+    (s : Controller) (c : Command) (i : ℕ) →
+    let before = (sourceAt s i) .dropped in
+    (sourceAt ((x s c) .state) i) .dropped ≡ cond (drops (suc i) c ((x s c) .number)) (oneMoreUpTo mostDropped before) before
+
+-- "The number of such refusals in the run, or 65,535 if there were more", the number from commands and answers alone.
+abbrev pub CountsDrops : List Entry → Controller → Type 0
+CountsDrops es s = (i : ℕ) → (sourceAt s i) .dropped ≡ min mostDropped (dropsIn (suc i) es)
+
+-- "From a fresh controller": after every list of commands.
+abbrev pub DroppedIsHistory : Behaviour → Type 0
+DroppedIsHistory x = (n m : ℕ) (cs : List Command) → CountsDrops (entriesBy x (reset n m) cs) (runBy x (reset n m) cs)

@@ -51,7 +51,7 @@ coreInRange top c = leb (c .configured) top && (c .message .filled || isEmptyBox
 -- Records past n or m are kept as fresh ones.
 unfoldable pub isResetSource : Source → Bool
 isResetSource r =
-    eqb (r .configured) 1 && r .masked && not (r .pending) && not (r .delivered) && eqb (r .priority) 0
+    eqb (r .configured) 1 && r .masked && not (r .pending) && not (r .delivered) && eqb (r .priority) 0 && eqb (r .dropped) 0
 
 unfoldable pub isResetCore : Core → Bool
 isResetCore c = eqb (c .configured) 0 && isEmptyBox (c .message)

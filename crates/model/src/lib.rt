@@ -25,6 +25,8 @@ pub struct Source {
     pub delivered: bool,
     // the priority of the pending request, copied from the configured one at trigger; 0 when nothing is pending
     pub priority: u16,
+    // the triggers refused because a request was pending already, held at 65,535
+    pub dropped: u16,
 }
 
 // Room for one delivered request. Document 01: "box".

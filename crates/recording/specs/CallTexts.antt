@@ -87,19 +87,19 @@ claiming = definitions ++ˢ "#0 b10 \" b100 $ 1! #1 0! #2 b100 \" 1! #3 0! #4 b1
 unfoldable pub faulty : String
 faulty = "$date $end $end"
 
--- Source 4 waits, masked; so does source 5.
-abbrev pub waits4 : Controller
-waits4 = withSource (reset 32 2) 3 (sourceWith 1 true true false 1)
+-- Source 4 waits, masked, with so many triggers dropped; so does source 5 beside one that dropped one.
+abbrev pub waits4 : ℕ → Controller
+waits4 dropped = withSource (reset 32 2) 3 (sourceWith 1 true true false 1 dropped)
 
 abbrev pub waits45 : Controller
-waits45 = withSource waits4 4 (sourceWith 1 true true false 1)
+waits45 = withSource (waits4 1) 4 (sourceWith 1 true true false 1 0)
 
 abbrev pub ReplayedCases : Type 0
 ReplayedCases =
-    (replayed 32 2 (bytesOf trigger4) ≡ replayWith 0 233 waits4 (answer waits4 0 0 0 ∷ [])) ×
-    -- 6, and on
+    (replayed 32 2 (bytesOf trigger4) ≡ replayWith 0 233 (waits4 0) (answer (waits4 0) 0 0 0 ∷ [])) ×
+    -- 6, counted, and on
     (replayed 32 2 (bytesOf again) ≡
-    replayWith 0 188 waits45 (answer waits4 0 0 0 ∷ answer waits4 6 0 0 ∷ answer waits45 0 0 0 ∷ [])) ×
+    replayWith 0 188 waits45 (answer (waits4 0) 0 0 0 ∷ answer (waits4 1) 6 0 0 ∷ answer waits45 0 0 0 ∷ [])) ×
     -- no command; sizes out of range, before any reading
     (replayed 32 2 (bytesOf faulty) ≡ replayWith 11 11 (reset 32 2) []) ×
     (replayed 0 2 (bytesOf faulty) ≡ replayWith 2 0 (reset 1 1) []) ×
@@ -113,15 +113,15 @@ ReplayedCases =
 abbrev pub lent : ℕ → List ℕ
 lent k = times k (9 ∷ [])
 
--- The bytes of a source after a reset, of one that waits masked, and of one that is claimed.
+-- The bytes of a source after a reset, of one that waits masked with so many triggers dropped, and of one that is claimed.
 abbrev pub fresh : List ℕ
-fresh = 1 ∷ 0 ∷ 1 ∷ 0 ∷ 0 ∷ 0 ∷ 0 ∷ []
+fresh = 1 ∷ 0 ∷ 1 ∷ 0 ∷ 0 ∷ 0 ∷ 0 ∷ 0 ∷ 0 ∷ []
 
-abbrev pub waiting : List ℕ
-waiting = 1 ∷ 0 ∷ 1 ∷ 1 ∷ 0 ∷ 1 ∷ 0 ∷ []
+abbrev pub waiting : ℕ → List ℕ
+waiting dropped = 1 ∷ 0 ∷ 1 ∷ 1 ∷ 0 ∷ 1 ∷ 0 ∷ dropped ∷ 0 ∷ []
 
 abbrev pub claimed : List ℕ
-claimed = 1 ∷ 0 ∷ 0 ∷ 1 ∷ 1 ∷ 1 ∷ 0 ∷ []
+claimed = 1 ∷ 0 ∷ 0 ∷ 1 ∷ 1 ∷ 1 ∷ 0 ∷ 0 ∷ 0 ∷ []
 
 -- The bytes of 32 sources and 2 cores, and of the records past them, from those of sources 4 and 5 and of core 0.
 abbrev pub stateOf : List ℕ → List ℕ → List ℕ → List ℕ
@@ -143,20 +143,20 @@ ReadCases =
 
 abbrev pub ReplayCases : Type 0
 ReplayCases =
-    (replayCall 32 2 (bytesOf trigger4) (lent 1156) (lent 1165) ≡
-    replayCallOf (reportWith 0 1 233) (stateOf waiting fresh (times 8 (0 ∷ []))) (0 ∷ 0 ∷ 0 ∷ 0 ∷ 0 ∷ lent 1160)) ×
-    -- a refused command passed over
-    (replayCall 32 2 (bytesOf again) (lent 1156) (lent 940) ≡
-    replayCallOf (reportWith 0 3 188) (stateOf waiting waiting (times 8 (0 ∷ [])))
+    (replayCall 32 2 (bytesOf trigger4) (lent 1412) (lent 1165) ≡
+    replayCallOf (reportWith 0 1 233) (stateOf (waiting 0) fresh (times 8 (0 ∷ []))) (0 ∷ 0 ∷ 0 ∷ 0 ∷ 0 ∷ lent 1160)) ×
+    -- a refused command counted and passed over
+    (replayCall 32 2 (bytesOf again) (lent 1412) (lent 940) ≡
+    replayCallOf (reportWith 0 3 188) (stateOf (waiting 1) (waiting 0) (times 8 (0 ∷ [])))
     (0 ∷ 0 ∷ 0 ∷ 0 ∷ 0 ∷ 6 ∷ 0 ∷ 0 ∷ 0 ∷ 0 ∷ 0 ∷ 0 ∷ 0 ∷ 0 ∷ 0 ∷ lent 925)) ×
     -- a cycle, an id, a fault behind them
-    (replayCall 32 2 (bytesOf claiming) (lent 1156) (lent 1040) ≡
+    (replayCall 32 2 (bytesOf claiming) (lent 1412) (lent 1040) ≡
     replayCallOf (reportWith 11 3 206) (stateOf claimed fresh (1 ∷ 0 ∷ times 6 (0 ∷ [])))
     (0 ∷ 0 ∷ 0 ∷ 0 ∷ 0 ∷ 0 ∷ 0 ∷ 0 ∷ 1 ∷ 0 ∷ 0 ∷ 4 ∷ 0 ∷ 0 ∷ 0 ∷ lent 1025)) ×
     -- sizes out of range: 2 at 0 though the text has a fault at 11, and nothing written
-    (replayCall 129 2 (bytesOf faulty) (lent 1156) (lent 75) ≡ replayCallOf (reportWith 2 0 0) (lent 1156) (lent 75)) ×
-    (replayCall 32 0 (bytesOf faulty) (lent 1156) (lent 75) ≡ replayCallOf (reportWith 2 0 0) (lent 1156) (lent 75)) ×
+    (replayCall 129 2 (bytesOf faulty) (lent 1412) (lent 75) ≡ replayCallOf (reportWith 2 0 0) (lent 1412) (lent 75)) ×
+    (replayCall 32 0 (bytesOf faulty) (lent 1412) (lent 75) ≡ replayCallOf (reportWith 2 0 0) (lent 1412) (lent 75)) ×
     -- too little room, before the sizes are looked at
-    (replayCall 32 2 (bytesOf trigger4) (lent 1156) (lent 1164) ≡ replayCallOf (reportWith 255 0 0) (lent 1156) (lent 1164)) ×
-    (replayCall 32 2 (bytesOf faulty) (lent 1155) (lent 75) ≡ replayCallOf (reportWith 255 0 0) (lent 1155) (lent 75)) ×
-    (replayCall 129 2 (bytesOf faulty) (lent 1157) (lent 75) ≡ replayCallOf (reportWith 255 0 0) (lent 1157) (lent 75))
+    (replayCall 32 2 (bytesOf trigger4) (lent 1412) (lent 1164) ≡ replayCallOf (reportWith 255 0 0) (lent 1412) (lent 1164)) ×
+    (replayCall 32 2 (bytesOf faulty) (lent 1411) (lent 75) ≡ replayCallOf (reportWith 255 0 0) (lent 1411) (lent 75)) ×
+    (replayCall 129 2 (bytesOf faulty) (lent 1413) (lent 75) ≡ replayCallOf (reportWith 255 0 0) (lent 1413) (lent 75))

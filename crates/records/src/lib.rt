@@ -1,7 +1,7 @@
 // One record made, or read: what a command makes of a source or a core, and what is read off one.
 ghost use mathlib.Core.Path.{_≡_};
 ghost use Rattle.model.specs.Records.{sourceWith, withConfigured, withMask, withDelivered, opened as openedOf, ended as endedOf, boxWith};
-ghost use Rattle.model.specs.Records.{emptyBox, holding, coreWith, reset as resetOf, answer};
+ghost use Rattle.model.specs.Records.{droppedOne, emptyBox, holding, coreWith, reset as resetOf, answer};
 ghost use Rattle.lists.specs.Numbers.{between};
 ghost use Rattle.model.specs.Priorities.{topPriority};
 ghost use Rattle.model.specs.Requests.{currentPriority, candidate};
@@ -17,6 +17,9 @@ use model::Source;
 use model::SourceAction;
 use model::SourceId;
 
+// What a count of dropped triggers is held at: `mostDropped`.
+const MOST_DROPPED: u16 = 65535;
+
 // ---- the records' values. Every literal of a state record in code stands here.
 
 pub fn source_with(
@@ -25,8 +28,9 @@ pub fn source_with(
     pending: bool,
     delivered: bool,
     priority: u16,
+    dropped: u16,
 ) -> Source
-    ensures { λ r. ⌜ r ≡ sourceWith configured masked pending delivered priority ⌝ }
+    ensures { λ r. ⌜ r ≡ sourceWith configured masked pending delivered priority dropped ⌝ }
 {
     Source {
         configured,
@@ -34,6 +38,7 @@ pub fn source_with(
         pending,
         delivered,
         priority,
+        dropped,
     }
 }
 
@@ -41,35 +46,60 @@ pub fn source_with(
 pub fn with_configured(r: Source, p: u16) -> Source
     ensures { λ s. ⌜ s ≡ withConfigured p r ⌝ }
 {
-    source_with(p, r.masked, r.pending, r.delivered, r.priority)
+    let mut s = r;
+    s.configured = p;
+    s
 }
 
 // The source masked, or not.
 pub fn with_mask(r: Source, masked: bool) -> Source
     ensures { λ s. ⌜ s ≡ withMask masked r ⌝ }
 {
-    source_with(r.configured, masked, r.pending, r.delivered, r.priority)
+    let mut s = r;
+    s.masked = masked;
+    s
 }
 
 // The source whose request is delivered, or not.
 pub fn with_delivered(r: Source, delivered: bool) -> Source
     ensures { λ s. ⌜ s ≡ withDelivered delivered r ⌝ }
 {
-    source_with(r.configured, r.masked, r.pending, delivered, r.priority)
+    let mut s = r;
+    s.delivered = delivered;
+    s
 }
 
 // The source with a new request, at its configured priority.
 pub fn opened(r: Source) -> Source
     ensures { λ s. ⌜ s ≡ openedOf r ⌝ }
 {
-    source_with(r.configured, r.masked, true, false, r.configured)
+    let mut s = r;
+    s.pending = true;
+    s.delivered = false;
+    s.priority = r.configured;
+    s
 }
 
 // The source with no request any more.
 pub fn ended(r: Source) -> Source
     ensures { λ s. ⌜ s ≡ endedOf r ⌝ }
 {
-    source_with(r.configured, r.masked, false, false, 0)
+    let mut s = r;
+    s.pending = false;
+    s.delivered = false;
+    s.priority = 0;
+    s
+}
+
+// The source with one more dropped trigger, held at the largest count.
+pub fn dropped_one(r: Source) -> Source
+    ensures { λ s. ⌜ s ≡ droppedOne r ⌝ }
+{
+    let mut s = r;
+    if r.dropped < MOST_DROPPED {
+        s.dropped = r.dropped + 1;
+    }
+    s
 }
 
 pub fn box_with(filled: bool, dirty: bool, source: SourceId, priority: u16) -> MessageBox
@@ -137,7 +167,7 @@ pub fn source_after(a: SourceAction, r: Source) -> Source
 pub fn reset(n: u16, m: u16) -> Controller
     ensures { λ r. ⌜ r ≡ resetOf n m ⌝ }
 {
-    let source = source_with(1, true, false, false, 0);
+    let source = source_with(1, true, false, false, 0, 0);
     let core = core_with(0, empty_box());
     Controller {
         n,

@@ -1,8 +1,8 @@
 -- What the calls for hosts on a simulation leave (`RefusedCallKeeps`, `RefusedSimulateKeeps`, `SimulateStrict`). Assumes nothing.
 --   routinesMachine    the calls of a simulation with its table, as a machine that answers each by five bytes
 --   cell-in-words      a cell of a table, in its words
---   events-read        the events read from the answers' bytes are those of the calls
-use Prim.Native.Nat.{ℕ, _+_, _*_, _<_, _≤_}
+--   events-read        the events read from the answers' bytes are those of the calls; events-told: from the front of a buffer
+use Prim.Native.Nat.{ℕ, suc, _+_, _*_, _<_, _≤_, min}
 use mathlib.Core.Path.{_≡_, refl, sym, _∙_, ap, subst}
 use mathlib.Core.Logic.{_≢_}
 use mathlib.Core.List.{List, [], _∷_, _++_}
@@ -14,7 +14,8 @@ use Rattle.lists.specs.Rows.{joined, tabulated}
 use Rattle.lists.proofs.Bools.{Flag, on, off, flag, and-l, and-in}
 use Rattle.lists.proofs.Rows.{getD-joined}
 use borrow.Author.Tests.{eq-eqb}
-use Rattle.model.specs.Records.{maxCores}
+use Rattle.model.specs.Records.{maxCores, mostDropped, sourceAt}
+use Rattle.model.specs.Commands.{alreadyPending}
 use Rattle.model.specs.Statements.{InRange}
 use Rattle.layout.specs.Bytes.{answerSize, stateBytes, isState, numberIn, noCount, roomFor}
 use Rattle.layout.specs.Statements.{Sized, AreBytes}
@@ -26,9 +27,9 @@ use Rattle.layout.proofs.Lists.{answers-fit}
 use Rattle.well_formed.proofs.Reset.{makes-exactly}
 use Rattle.routines.specs.declared.Routines.{Routines}
 use Rattle.routines.specs.declared.RoutineCall.{RoutineCall}
-use Rattle.routines.specs.Routines.{makeRoutines, freshRoutines, SoundRoutines, callRefusal, acceptedCall, callRoutine, Handovers, cellAt}
-use Rattle.routines.specs.Routines.{noHandovers, tableAfter, runRoutines, runTable}
-use Rattle.routines.specs.History.{Event, eventOf, historyAfter}
+use Rattle.routines.specs.Routines.{makeRoutines, freshRoutines, SoundRoutines, callRefusal, acceptedCall, refusedCall, callRoutine}
+use Rattle.routines.specs.Routines.{Handovers, cellAt, mostHandovers, noHandovers, tableAfter, runRoutines, runTable}
+use Rattle.routines.specs.History.{Event, handovers, droppedIn, eventOf, historyAfter, history}
 use Rattle.routines.specs.Calls.{oneCall, callOf, callsIn, routinesIn, isSimulation, tableSize, tableIn, tableWords, packedCall, memoryWith}
 use Rattle.routines.specs.Calls.{memoryOf, fitsMake, makeRoutinesCall, calledOn, routineCall, simulateCallOf, fitsSimulate, callAnswers}
 use Rattle.routines.specs.Calls.{callAnswerBytes, simulated, simulateCall}
@@ -39,6 +40,7 @@ use Rattle.routine_laws.proofs.Kept.{run-sound}
 use Rattle.routine_laws.proofs.Strict.{fresh-sound, every-run-strict}
 use Rattle.routine_laws.proofs.Cells.{Whole}
 use Rattle.routine_laws.proofs.Tally.{fresh-run-tallied}
+use Rattle.routine_laws.proofs.Dropped.{dropped-in-runs}
 
 -- ---- the calls as a machine
 
@@ -86,6 +88,14 @@ events-read h s [] rest = refl
 events-read h s (c ∷ cs) rest =
     rw (word-back ((callRoutine s c) .id .0)) (events-read (eventOf s c ∷ h) ((callRoutine s c) .state) cs rest)
 
+-- the answers are written to the front of their buffer
+events-told :
+    (s : Routines) (cs : List RoutineCall) (answers : List ℕ) → answerSize * length cs ≤ length answers →
+    eventsIn [] cs (sets answers 0 (answersOn (counting s noHandovers) cs)) ≡ history s cs
+events-told s cs answers enough =
+    ap (eventsIn [] cs) (answers-in-front routinesMachine answers (counting s noHandovers) cs enough)
+    ∙ events-read [] s cs (drop (answerSize * length cs) answers)
+
 -- no handover, as words
 blank-table : tableIn (replicate tableSize 0) ≡ noHandovers
 unfolding tableIn tabulated
@@ -104,24 +114,33 @@ cell-in-words t whole r c r-lt c-lt =
 told-zero : (s : Routines) (c : RoutineCall) → numberIn (packedCall (acceptedCall s c)) ≡ 0
 told-zero s c = omega (arith, accepted-number s c)
 
+-- and one refused by 6 tells 6
+told-six : (s : Routines) (c : RoutineCall) (number : ℕ) → number ≡ alreadyPending →
+    numberIn (packedCall (refusedCall s c number)) ≡ alreadyPending
+told-six s c number six = omega arith
+
 module _ (c : RoutineCall) (b active holder : List ℕ) where
   -- of a memory that encodes a simulation
   kept : AreBytes b → isState b ≡ true → let done = calledOn (routinesIn b active holder) c in
-      numberIn (done .result) ≢ 0 → done ≡ memoryWith (done .result) b active holder
+      numberIn (done .result) ≢ 0 → numberIn (done .result) ≢ alreadyPending → done ≡ memoryWith (done .result) b active holder
   kept bytes e =
       let s : Routines = routinesIn b active holder in
-      by-call s c (λ a. numberIn (packedCall a) ≢ 0 → memoryOf (packedCall a) (a .state) ≡ memoryWith (packedCall a) b active holder)
-      (λ z h. absurd (h (told-zero s c)))
-      (λ z h. rw (handed-back s c (callRefusal s c), bytes-written-back b bytes e) refl)
+      by-call s c
+      (λ a.
+      numberIn (packedCall a) ≢ 0 → numberIn (packedCall a) ≢ alreadyPending →
+      memoryOf (packedCall a) (a .state) ≡ memoryWith (packedCall a) b active holder)
+      (λ z h other. absurd (h (told-zero s c)))
+      (λ z h other.
+      rw (handed-back s c (callRefusal s c) (λ six. other (told-six s c (callRefusal s c) six)), bytes-written-back b bytes e) refl)
 
 pub refused-call-keeps : RefusedCallKeeps
 unfolding routineCall
 refused-call-keeps c b active holder bytes = go (flag (isSimulation b active holder))
   where
     go : Flag (isSimulation b active holder) → let done = routineCall c b active holder in
-        numberIn (done .result) ≢ 0 → done ≡ memoryWith (done .result) b active holder
+        numberIn (done .result) ≢ 0 → numberIn (done .result) ≢ alreadyPending → done ≡ memoryWith (done .result) b active holder
     go (on e) = rw e (kept c b active holder bytes (and-l _ _ e))
-    go (off e) = rw e (λ h. refl)
+    go (off e) = rw e (λ h other. refl)
 
 pub refused-simulate-keeps : RefusedSimulateKeeps
 unfolding simulateCall
@@ -171,9 +190,8 @@ simulate-strict n m b active holder list answers range fits room =
     let same : routinesIn (stateBytes (u .controller)) (u .active) (u .holder) ≡ u = read-back u (run-sound s cs fresh) in
     let x = fresh-run-tallied n m cs range in
     let enough : answerSize * length cs ≤ length answers = answers-fit list answers (λ number at p. oneCall (callOf number at p)) room in
-    let written : List ℕ = joined callAnswerBytes (callAnswers s cs) in
-    let told : sets answers 0 written ≡ written ++ drop (answerSize * length cs) answers
-    = answers-in-front routinesMachine answers (counting s noHandovers) cs enough in
+    let told : history s cs ≡ eventsIn [] cs (sets answers 0 (answersOn (counting s noHandovers) cs))
+    = sym (events-told s cs answers enough) in
     let done : simulatedFresh n m (makeRoutinesCall n m b active holder) list answers ≡ simulated s cs answers (replicate tableSize 0)
     = ap (λ made. simulatedFresh n m made list answers) (made n m b active holder range fits) ∙ ran s fresh list answers room in
     subst (Simulated cs) (sym done)
@@ -183,5 +201,8 @@ simulate-strict n m b active holder list answers range fits room =
       table-is = λ r c r-lt c-lt.
           ap (λ (t : Handovers). getD (tableWords (runTable t s cs)) (maxCores * r + c) 0) blank-table
           ∙ cell-in-words (runTable noHandovers s cs) (x .whole) r c r-lt c-lt ∙ x .cells r c
-          ∙ sym (rw (told, events-read [] s cs (drop (answerSize * length cs) answers)) refl);
+          ∙ ap (λ h. min mostHandovers (handovers h r c)) told;
+      dropped-is = λ i.
+          ap (λ (v : Routines). (sourceAt (v .controller) i) .dropped) same ∙ dropped-in-runs n m cs i
+          ∙ ap (λ h. min mostDropped (droppedIn h (suc i))) told;
     })

@@ -1,6 +1,6 @@
 -- What holds of the interrupt routines.
 --   Test          the computed test means its proposition
---   Answered      what an accepted and a refused call answer; a refused one changes nothing
+--   Answered      what an accepted and a refused call answer; one refused by a number other than 6 changes nothing
 --   Checks        checks in a row give the number of the first that fails
 --   Refusals      each number for no is given exactly when its line says
 --   Standing      what a sound simulation says of its cores, and what an accepted call has found
@@ -11,8 +11,9 @@
 --   Cycles        the cycles of a call
 --   Taken         what runs and what waits after an entry and after an exit
 --   Strict        a fresh simulation is sound; both clauses after every run
---   Called        what the calls for hosts leave
 --   Cells, Tally  the table of handovers is the count in the history
+--   Dropped       so are the counts of dropped triggers
+--   Called        what the calls for hosts leave
 pub mod Test
 pub mod Answered
 pub mod Checks
@@ -30,4 +31,5 @@ pub mod Taken
 pub mod Strict
 pub mod Cells
 pub mod Tally
+pub mod Dropped
 pub mod Called

@@ -3,27 +3,32 @@
 --   sound-accepted                      an accepted call has found a sound simulation, and has passed its checks
 --   command-accepted, answered          a command that passes its checks on a sound controller is accepted, and answers 0
 --   enter-checked, exit-checked         what the checks of entry and exit say
+--   call-dropped                        what a call has found that is refused by 6
 use Prim.Native.Nat.{ℕ, suc, _<_, _≤_}
-use mathlib.Core.Path.{_≡_, refl, sym, _∙_, ap}
+use mathlib.Core.Path.{_≡_, sym, _∙_, ap}
 use mathlib.Core.Logic.{_≢_}
-use mathlib.Core.Bool.{Bool, true, false}
+use mathlib.Core.Bool.{true, false}
 use lib.Dec.{ltb}
 use native.Mathlib.Omega.{arith}
 use borrow.Author.Tests.{ltb-true, ltb-false}
 use Rattle.lists.proofs.Bools.{Flag, on, off, flag, clash}
+use Rattle.model.specs.declared.SourceId.{SourceId}
 use Rattle.model.specs.declared.CoreId.{CoreId}
 use Rattle.model.specs.declared.Controller.{Controller}
 use Rattle.model.specs.declared.Answer.{Answer}
 use Rattle.model.specs.declared.Command.{Command}
 use Rattle.model.specs.Records.{maxCores, coreAt}
 use Rattle.model.specs.WellFormed.{WellFormed}
-use Rattle.model.specs.Commands.{unless, namesCore, refusalOf, refusal, settled, execute}
+use Rattle.model.specs.Commands.{malformed, alreadyPending, namesCore, refusalOf, refusal, settled, execute}
 use Rattle.well_formed.proofs.Test.{wellFormed-in}
 use Rattle.effects.proofs.Accepted.{execute-accepted}
+use Rattle.effects.proofs.Checked.{passed-to, passed}
 use Rattle.routines.specs.declared.Routines.{Routines}
+use Rattle.routines.specs.declared.DirectAction.{DirectAction}
 use Rattle.routines.specs.declared.RoutineCall.{RoutineCall}
-use Rattle.routines.specs.declared.RoutineCall.the-variants.{Enter, Exit}
-use Rattle.routines.specs.Routines.{activeAt, activeIndex, runs, soundRoutines, Runs, SoundRoutines, callRefusalOf, callRefusal}
+use Rattle.routines.specs.declared.RoutineCall.the-variants.{Direct, Enter, Exit}
+use Rattle.routines.specs.Routines.{activeAt, activeIndex, runs, soundRoutines, Runs, SoundRoutines, commandOf, callRefusalOf}
+use Rattle.routines.specs.Routines.{callRefusal}
 use Rattle.routine_laws.proofs.Test.{runs-out, runs-in, routines-test-exact}
 
 module _ (s : Routines) (sound : SoundRoutines s) where
@@ -60,11 +65,6 @@ module _ (s : Routines) (sound : SoundRoutines s) where
 
 -- ---- accepted calls
 
--- a check that gives no number was passed, and so were the later ones
-passed : (b : Bool) (number later : ℕ) → unless b (suc number) later ≡ 0 → (b ≡ true) × (later ≡ 0)
-passed true number later e = (refl, e)
-passed false number later e = absurd (omega arith)
-
 module _ (s : Routines) where
   pub sound-accepted : (c : RoutineCall) → callRefusal s c ≡ 0 → SoundRoutines s × (callRefusalOf s c ≡ 0)
   unfolding callRefusal
@@ -88,10 +88,22 @@ module _ (s : Routines) where
 -- ---- commands inside a call
 
 module _ (c : Controller) (o : Command) where
-  pub command-accepted : WellFormed c → refusalOf c o ≡ 0 → refusal c o ≡ 0
+  checks-decide : WellFormed c → refusal c o ≡ refusalOf c o
   unfolding refusal
-  command-accepted w e = rw (wellFormed-in c w) e
+  checks-decide w = rw (wellFormed-in c w)
+
+  pub command-accepted : WellFormed c → refusalOf c o ≡ 0 → refusal c o ≡ 0
+  command-accepted w e = checks-decide w ∙ e
 
   pub answered : refusal c o ≡ 0 → (execute c o) .number ≡ 0
   unfolding settled
   answered e = ap (λ (a : Answer). a .number) (execute-accepted c o e)
+
+-- A call that is refused by 6 has found a sound simulation, and the controller's own checks give the number.
+pub call-dropped : (s : Routines) (id : SourceId) (a : DirectAction) → callRefusal s (Direct id a) ≡ alreadyPending →
+    SoundRoutines s × (refusal (s .controller) (commandOf id a) ≡ alreadyPending)
+unfolding callRefusal callRefusalOf
+call-dropped s id a e =
+    let (test, checks) = passed-to alreadyPending (soundRoutines s) malformed (callRefusalOf s (Direct id a)) (λ z. omega arith) e in
+    let sound : SoundRoutines s = routines-test-exact s .0 test in
+    (sound, checks-decide (s .controller) (commandOf id a) (sound .controller) ∙ checks)

@@ -12,6 +12,7 @@ use lib.ListN.{length, getD, set, replicate, length-replicate, getD-replicate}
 use native.Mathlib.Omega.{arith}
 use borrow.Author.Tests.{eq-eqb, ne-eqb}
 use Rattle.lists.proofs.Filling.{getD-zeros}
+use Rattle.lists.proofs.Held.{held-by}
 use Rattle.lists.proofs.Writes.{read-written}
 use Rattle.model.specs.declared.SourceId.{SourceId}
 use Rattle.model.specs.declared.CoreId.{CoreId}
@@ -27,14 +28,14 @@ use Rattle.routines.specs.declared.RoutineCall.{RoutineCall}
 use Rattle.routines.specs.declared.RoutineCall.the-variants.{Direct, Enter, Exit}
 use Rattle.routines.specs.Routines.{holderAt, commandOf, idleBeside, freshRoutines, SoundRoutines, callRefusalOf, callRefusal, claimOn}
 use Rattle.routines.specs.Routines.{entered, exited, commanded, acceptedCall, afterRefusedCall, callRoutine, Handovers, cellAt, noHandovers}
-use Rattle.routines.specs.Routines.{mostHandovers, oneMore, boxHolder, counted, tableAfter, runRoutines, runTable}
+use Rattle.routines.specs.Routines.{mostHandovers, boxHolder, counted, tableAfter, runRoutines, runTable}
 use Rattle.routines.specs.History.{Event, heldBy, lastHolder, passesOn, handovers, eventOf, eventWith, historyAfter, history}
 use Rattle.routines.specs.Statements.{TableIsHistory, DiagonalZero}
 use Rattle.routine_laws.proofs.Answered.{by-call}
 use Rattle.routine_laws.proofs.Standing.{sound-accepted, enter-checked, command-accepted}
 use Rattle.routine_laws.proofs.EntryKept.{claim-id}
 use Rattle.routine_laws.proofs.Strict.{fresh-is}
-use Rattle.routine_laws.proofs.Cells.{Whole, counts, cell-counted, whole-counted, one-more-held}
+use Rattle.routine_laws.proofs.Cells.{Whole, counts, cellBy, cell-counted, whole-counted}
 
 pub record Tallied (s : Routines) (t : Handovers) (h : List Event) : Type 0 where
   pub whole : Whole t
@@ -98,11 +99,6 @@ module _ (s : Routines) (sound : SoundRoutines s) (t : Handovers) (h : List Even
   unfolding exited
   exited-tallied k = unpassed s _ t h x (Exit k) 0 (λ r d. refl) (x .same-holder)
 
-  -- one cell, before and after
-  cell-by : (b : Bool) (cell y : ℕ) → cell ≡ min mostHandovers y → cond b (oneMore cell) cell ≡ min mostHandovers (y + cond b 1 0)
-  cell-by true cell y e = one-more-held cell y e
-  cell-by false cell y e = e ∙ ap (min mostHandovers) (omega arith)
-
   module _ (k : CoreId) (k-lt : k .0 < s .controller .m) (filled : (coreAt (s .controller) (k .0)) .message .filled ≡ true) where
     abbrev box : ℕ
     box = (coreAt (s .controller) (k .0)) .message .source .0
@@ -130,8 +126,8 @@ module _ (s : Routines) (sound : SoundRoutines s) (t : Handovers) (h : List Even
         min mostHandovers (handovers h r c + cond (counts (lastHolder h box) (k .0) r c) 1 0)
     cell-after r c =
         cell-counted t (x .whole) (k .0) core-lt (boxHolder s (k .0)) holder-le r c ∙
-        ap (λ y. cond (counts y (k .0) r c) (oneMore (cellAt t r c)) (cellAt t r c)) held ∙
-        cell-by (counts (lastHolder h box) (k .0) r c) (cellAt t r c) (handovers h r c) (x .cells r c)
+        ap (λ y. cellBy t r c (counts y (k .0) r c)) held ∙
+        held-by mostHandovers (cellAt t r c) (handovers h r c) (x .cells r c) (counts (lastHolder h box) (k .0) r c)
 
     entered-by : (u : Routines) (id : ℕ) → id ≡ box → u .holder ≡ set (s .holder) (pred id) (suc (k .0)) →
         Tallied u (counted t (boxHolder s (k .0)) (k .0)) (eventWith (Enter k) 0 id ∷ h)
@@ -171,7 +167,9 @@ module _ (s : Routines) (t : Handovers) (h : List Event) (x : Tallied s t h) whe
   unaccepted : (c : RoutineCall) → callRefusal s c ≢ 0 →
       Tallied (afterRefusedCall s c (callRefusal s c)) (tableAfter t s c) (eventWith c (callRefusal s c) 0 ∷ h)
   unfolding tableAfter
-  unaccepted (Direct id a) ne = refused-tallied s t h x (Direct id a) _ 0 ne
+  unaccepted (Direct id a) ne =
+      let same = refused-tallied s t h x (Direct id a) (callRefusal s (Direct id a)) 0 ne in
+      record { whole = same .whole; same-holder = same .same-holder; cells = same .cells }
   unaccepted (Enter k) ne = rw (ne-eqb (callRefusal s (Enter k)) 0 ne) (refused-tallied s t h x (Enter k) _ 0 ne)
   unaccepted (Exit k) ne = refused-tallied s t h x (Exit k) _ 0 ne
 

@@ -22,9 +22,10 @@ use Rattle.model.specs.declared.SourceAction.{SourceAction}
 use Rattle.model.specs.declared.SourceAction.the-variants.{Redeliver, Complete}
 use Rattle.model.specs.declared.CoreAction.the-variants.{Claim, SetCorePriority}
 use Rattle.model.specs.Records.{sourceId, coreAt}
-use Rattle.model.specs.Commands.{namesCore, refusalOf, refused, settled, execute}
+use Rattle.model.specs.Commands.{namesCore, refusalOf, settled, afterRefusal, refused, execute}
 use Rattle.effects.proofs.Accepted.{by-answer}
 use Rattle.effects.proofs.Checked.{checked}
+use Rattle.effects.proofs.Dropped.{core-kept}
 use Rattle.effects.proofs.Kept.{wellFormed-kept}
 use Rattle.layout.specs.Bytes.{wordAt, stateFrom}
 use Rattle.in_place.specs.declared.Outcome.{Outcome}
@@ -36,8 +37,8 @@ use Rattle.routines.specs.declared.Routines.{Routines}
 use Rattle.routines.specs.declared.DirectAction.{DirectAction}
 use Rattle.routines.specs.declared.RoutineCall.{RoutineCall}
 use Rattle.routines.specs.declared.RoutineCall.the-variants.{Direct, Enter, Exit}
-use Rattle.routines.specs.Routines.{activeAt, actionOf, commandOf, holderAfter, commanded, claimOn, handBack, entered, completeOn, lower}
-use Rattle.routines.specs.Routines.{exited, callRefusal, refusedCall, afterRefusedCall, callRoutine}
+use Rattle.routines.specs.Routines.{withController, activeAt, actionOf, commandOf, callRefusal, claimOn, handBack, entered, completeOn}
+use Rattle.routines.specs.Routines.{lower, exited, holderAfter, commanded, afterRefusedCall, refusedCall, callRoutine}
 use Rattle.routines.specs.Calls.{routinesIn}
 use Rattle.routine_laws.proofs.Answered.{call-accepted, call-refused}
 use Rattle.routine_laws.proofs.Standing.{sound-accepted, enter-checked}
@@ -64,12 +65,12 @@ module _ {b active holder keys ranks : List ℕ} (st : Standing b active holder 
   pub standing-ready : Ready b keys ranks
   standing-ready = record { held = st .held; sound = st .sound .controller }
 
-  -- a refused call, whose state is held as it was
+  -- a refused call, of which the controller that it hands back is held
   stays :
-      (c : RoutineCall) {r : Stepped} {b′ keys′ ranks′ : List ℕ} (number : ℕ) → callRefusal s c ≡ number → number ≢ 0 →
-      afterRefusedCall s c number ≡ s → Answers r number 0 0 0 → Held (stateFrom b) b′ keys′ ranks′ →
+      (c : RoutineCall) {r : Stepped} {t : Controller} {b′ keys′ ranks′ : List ℕ} (number : ℕ) → callRefusal s c ≡ number → number ≢ 0 →
+      afterRefusedCall s c number ≡ withController s t → Answers r number 0 0 0 → Held t b′ keys′ ranks′ →
       Did s c r b′ active holder keys′ ranks′
-  stays c {r} {b′} {keys′} {ranks′} number e h same (en, ei, ec, ef) held =
+  stays c number e h same (en, ei, ec, ef) held =
       let is : callRoutine s c ≡ refusedCall s c number
       = call-refused s c (λ z. h (sym e ∙ z)) ∙ ap (refusedCall s c) e in
       let none : takenFrom s c ≡ 0 = none-taken s c (λ z. h (sym e ∙ z)) in
@@ -80,15 +81,16 @@ module _ {b active holder keys ranks : List ℕ} (st : Standing b active holder 
         holder-is = rw (is, same) refl;
       }
 
-  -- a refused command of the controller leaves the state as it was
-  kept :
-      (o : Command) {x : Outcome} {b′ keys′ ranks′ : List ℕ} → Executed b o x b′ keys′ ranks′ → (execute (stateFrom b) o) .number ≢ 0 →
-      Held (stateFrom b) b′ keys′ ranks′
+  -- what a refused command of the controller leaves
+  left :
+      (o : Command) {x : Outcome} {b′ keys′ ranks′ : List ℕ} → Executed b o x b′ keys′ ranks′ → x .number ≢ 0 →
+      Held (afterRefusal (stateFrom b) o (x .number)) b′ keys′ ranks′
   unfolding settled refused
-  kept o {x} {b′} {keys′} {ranks′} did h =
-      let same : (execute (stateFrom b) o) .state ≡ stateFrom b
-      = by-answer (stateFrom b) o (λ (a : Answer). a .number ≢ 0 → a .state ≡ stateFrom b) (λ e n. absurd (n refl)) (λ e n. refl) h in
-      subst (λ (c : Controller). Held c b′ keys′ ranks′) same (did .held)
+  left o {x} {b′} {keys′} {ranks′} did h =
+      let same : (execute (stateFrom b) o) .state ≡ afterRefusal (stateFrom b) o ((execute (stateFrom b) o) .number)
+      = by-answer (stateFrom b) o (λ (a : Answer). a .number ≢ 0 → a .state ≡ afterRefusal (stateFrom b) o (a .number))
+      (λ e n. absurd (n refl)) (λ e n. refl) (λ z. h (did .says .0 ∙ z)) in
+      subst (λ (c : Controller). Held c b′ keys′ ranks′) (same ∙ ap (afterRefusal (stateFrom b) o) (sym (did .says .0))) (did .held)
 
   -- and an accepted one a sound state
   after : (o : Command) {x : Outcome} {b′ keys′ ranks′ : List ℕ} → Executed b o x b′ keys′ ranks′ → Ready b′ keys′ ranks′
@@ -118,8 +120,7 @@ module _ {b active holder keys ranks : List ℕ} (st : Standing b active holder 
 
     pub command-refused :
         {r : Stepped} → x .number ≢ 0 → Answers r (x .number) 0 0 0 → Did s (Direct id a) r b′ active holder keys′ ranks′
-    command-refused h says =
-        stays (Direct id a) (x .number) (sym number) h refl says (kept (commandOf id a) did (λ z. h (did .says .0 ∙ z)))
+    command-refused h says = stays (Direct id a) (x .number) (sym number) h refl says (left (commandOf id a) did h)
 
     module _ (e : x .number ≡ 0) where
       accepted : callRoutine s (Direct id a) ≡ commanded s id a
@@ -152,7 +153,9 @@ module _ {b active holder keys ranks : List ℕ} (st : Standing b active holder 
 
     pub enter-refused :
         {r : Stepped} → x .number ≢ 0 → Answers r (x .number) 0 0 0 → Did s (Enter k) r b₁ active holder keys₁ ranks₁
-    enter-refused h says = stays (Enter k) (x .number) (sym enter-is) h refl says (kept (OnCore k Claim) did (λ z. h (did .says .0 ∙ z)))
+    enter-refused h says =
+        stays (Enter k) (x .number) (sym enter-is) h refl says
+        (subst (λ (c : Controller). Held c b₁ keys₁ ranks₁) (core-kept (stateFrom b) k Claim (x .number)) (left (OnCore k Claim) did h))
 
     pub enter-ready : Ready b₁ keys₁ ranks₁
     enter-ready = after (OnCore k Claim) did

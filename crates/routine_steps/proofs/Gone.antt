@@ -65,7 +65,7 @@ module _ {sound : Bool} {b active holder keys ranks : List ℕ} (g : Running sou
       let is : callRoutine s c ≡ refusedCall s c 1 = call-refused s c some ∙ ap (refusedCall s c) number in
       record {
         says = rw (is, none-taken s c some) (en, ei, ec, ef);
-        state-is = rw (is, handed-back s c 1) refl;
+        state-is = rw (is, handed-back s c 1 (λ z. omega arith)) refl;
         running = g;
       }
 

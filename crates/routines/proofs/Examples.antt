@@ -9,9 +9,9 @@ use Rattle.routines.specs.declared.RoutineCall.{RoutineCall}
 use Rattle.routines.specs.Routines.{routineLists, activeOnce, atItsPriority, lastHeldThere, othersIdle, holdersInside, soundRoutines}
 use Rattle.routines.specs.Routines.{callRefusalOf, callRefusal, entered, exited, commanded, callRoutine, counted, tableAfter}
 use Rattle.routines.specs.Routines.{runRoutines, runTable}
-use Rattle.routines.specs.History.{lastHolder, handovers, historyAfter}
+use Rattle.routines.specs.History.{lastHolder, handovers, droppedIn, historyAfter}
 use Rattle.routines.specs.Cases.{begun, passes, allPass, runCases, RoutineClausesAreTest, one, refusedByOne, breaksJust, allBreak}
-use Rattle.routines.specs.Cases.{brokenCases, allTell, historyCases, HeldCells}
+use Rattle.routines.specs.Cases.{brokenCases, allTell, historyCases, HeldCells, allCount, dropRuns}
 
 -- To open this name is to open every definition that a run of the routines computes with.
 unfoldable pub computed : Routines → List RoutineCall → Routines
@@ -34,6 +34,10 @@ states-broken = refl
 pub histories-tell : allTell historyCases ≡ true
 unfolding lastHolder handovers allTell historyCases
 histories-tell = refl
+
+pub drops-counted : allCount dropRuns ≡ true
+unfolding computed droppedIn begun allCount dropRuns
+drops-counted = refl
 
 pub held-cells : HeldCells
 held-cells = (refl, refl, refl)

@@ -1,9 +1,10 @@
 -- Worked runs of the interrupt routines, worked states that refusal 1 tells apart, and worked histories. Definitions only.
--- Source: document 02, 4/14. A run is a list of calls from document 01's start state, then one call with what it must answer.
+-- Source: document 02, 4/14 and 7/14. A run is a list of calls from document 01's start state, then one call with what it must answer.
 --   begun         32 sources, every one unmasked with priority equal to its id, two cores, nothing active
 --   passes c      whether the definitions answer as the case says
 --   stateCases    for each clause of the test states that break it, beside the sound one that they differ from
 --   histories     histories written by hand, with the handovers in them
+--   dropRuns      runs with the triggers that they drop
 use Prim.Native.Nat.{ℕ}
 use mathlib.Core.Path.{_≡_}
 use mathlib.Core.List.{List, [], _∷_, _++_}
@@ -23,7 +24,7 @@ use Rattle.routines.specs.declared.RoutineAnswer.{RoutineAnswer}
 use Rattle.routines.specs.Routines.{activeAt, routinesWith, withController, idleBeside, routineLists, activeOnce, atItsPriority}
 use Rattle.routines.specs.Routines.{lastHeldThere, othersIdle, holdersInside, soundRoutines, callRoutine, Handovers, cellAt}
 use Rattle.routines.specs.Routines.{noHandovers, runRoutines, runTable, raised}
-use Rattle.routines.specs.History.{Event, eventWith, lastHolder, handovers, history}
+use Rattle.routines.specs.History.{Event, eventWith, lastHolder, handovers, droppedIn, history}
 
 -- ---- the calls, by numbers
 
@@ -274,3 +275,34 @@ HeldCells =
     (cellAt (raised (set noHandovers 1 (65534 ∷ 65535 ∷ 7 ∷ [])) 1 0) 1 0 ≡ 65535) ×
     (cellAt (raised (set noHandovers 1 (65534 ∷ 65535 ∷ 7 ∷ [])) 1 1) 1 1 ≡ 65535) ×
     (cellAt (raised (set noHandovers 1 (65534 ∷ 65535 ∷ 7 ∷ [])) 1 1) 1 2 ≡ 7)
+
+-- ---- dropped triggers: document 02, 7/14
+
+-- Calls from the start state, and the triggers of source 4 that they drop: as its count has them, and as the history does.
+pub record DropRun : Type 0 where
+  pub calls : List RoutineCall
+  pub dropped : ℕ
+
+abbrev pub counts : DropRun → Bool
+counts d =
+    eqb ((sourceAt ((runRoutines begun (d .calls)) .controller) 3) .dropped) (d .dropped) &&
+    eqb (droppedIn (history begun (d .calls)) 4) (d .dropped)
+
+unfoldable pub allCount : List DropRun → Bool
+allCount [] = true
+allCount (d ∷ ds) = counts d && allCount ds
+
+dropping : List RoutineCall → ℕ → DropRun
+dropping calls dropped = record { calls = calls; dropped = dropped }
+
+unfoldable pub dropRuns : List DropRun
+unfolding dropping set-priority mask trigger enter exit
+dropRuns =
+    -- in a box, waiting masked, running
+    dropping (trigger 4 ∷ trigger 4 ∷ []) 1 ∷
+    dropping (mask 4 ∷ trigger 4 ∷ trigger 4 ∷ trigger 4 ∷ []) 2 ∷
+    dropping (trigger 4 ∷ enter 0 ∷ trigger 4 ∷ []) 1 ∷
+    -- entry, exit and a new trigger leave it, and so do 7, 9, 8, 4 and another source's
+    dropping
+    (trigger 4 ∷ trigger 4 ∷ enter 0 ∷ enter 0 ∷ set-priority 4 9 ∷ exit 0 ∷ exit 0 ∷ trigger 4 ∷ trigger 33 ∷ trigger 5 ∷ trigger 5 ∷ []) 1 ∷
+    []

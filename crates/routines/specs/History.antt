@@ -4,15 +4,17 @@
 --   lastHolder h id        the core that last held the request of source id, plus one; 0: none
 --   handovers h r c        how often a request last held by core r was next claimed by core c, another core
 --   historyAfter h s cs    the history h, and then that of the calls cs from state s
+--   droppedIn h id         how many triggers of source id were answered by 6: document 02, 7/14
 use Prim.Native.Nat.{ℕ, suc, _+_}
 use mathlib.Core.List.{List, [], _∷_}
 use mathlib.Core.Bool.{Bool, false, not, _&&_, cond}
 use lib.Dec.{eqb}
+use Rattle.model.specs.Drops.{drops}
 use Rattle.routines.specs.declared.Routines.{Routines}
 use Rattle.routines.specs.declared.DirectAction.the-variants.{SetPriority, Mask, Unmask, Trigger}
 use Rattle.routines.specs.declared.RoutineCall.{RoutineCall}
 use Rattle.routines.specs.declared.RoutineCall.the-variants.{Direct, Enter, Exit}
-use Rattle.routines.specs.Routines.{callRoutine}
+use Rattle.routines.specs.Routines.{commandOf, callRoutine}
 
 -- A call with the number and the id that it answered.
 pub record Event : Type 0 where
@@ -49,6 +51,17 @@ passesOn (Exit k) answered h r c = false
 unfoldable pub handovers : List Event → ℕ → ℕ → ℕ
 handovers [] r c = 0
 handovers (e ∷ h) r c = handovers h r c + cond (eqb (e .number) 0 && passesOn (e .call) (e .id) h r c) 1 0
+
+-- ---- dropped triggers
+
+abbrev pub dropsCall : ℕ → RoutineCall → ℕ → Bool
+dropsCall id (Direct x a) number = drops id (commandOf x a) number
+dropsCall id (Enter k) number = false
+dropsCall id (Exit k) number = false
+
+unfoldable pub droppedIn : List Event → ℕ → ℕ
+droppedIn [] id = 0
+droppedIn (e ∷ h) id = droppedIn h id + cond (dropsCall id (e .call) (e .number)) 1 0
 
 -- ---- the history of a run
 

@@ -5,7 +5,8 @@
 --   holderAt s i          the core that last held the request of source i + 1, plus one; 0: none
 --   soundRoutines s       the computed test, on any record; SoundRoutines s is what it means, and the two are proved equivalent
 --   callRefusal s c       the number for no, 0 for none
---   callRoutine s c       the whole call, on any state: a refused one hands back the state it was given, id 0 and 0 cycles
+--   callRoutine s c       the whole call, on any state: a refused one hands back the state it was given, id 0 and 0 cycles; a trigger
+--                         refused by 6 hands it back with one more dropped trigger at its source
 --   tableAfter t s c      the table of handovers after a call on s: the row is the core that held the request, the column the one that
 --                         claims it
 --   runRoutines, runTable the state and the table after a list of calls, refused ones included
@@ -15,7 +16,7 @@ use mathlib.Core.List.{List, [], _∷_}
 use mathlib.Core.Bool.{Bool, true, not, _&&_, _||_, cond}
 use lib.ListN.{length, getD, set, replicate}
 use lib.Dec.{ltb, leb, eqb}
-use Rattle.lists.specs.Numbers.{between}
+use Rattle.lists.specs.Numbers.{between, oneMoreUpTo}
 use Rattle.lists.specs.Walks.{every, tally}
 use Rattle.model.specs.declared.SourceId.{SourceId}
 use Rattle.model.specs.declared.CoreId.{CoreId}
@@ -256,11 +257,8 @@ abbrev pub mostHandovers : ℕ
 mostHandovers = 65535
 
 -- "Held at 65,535".
-abbrev pub oneMore : ℕ → ℕ
-oneMore x = cond (ltb x mostHandovers) (suc x) x
-
 abbrev pub raised : Handovers → ℕ → ℕ → Handovers
-raised t r c = set t r (set (rowAt t r) c (oneMore (cellAt t r c)))
+raised t r c = set t r (set (rowAt t r) c (oneMoreUpTo mostHandovers (cellAt t r c)))
 
 -- Core k claims a request whose last holder is given, as in `holderAt`: "last held by one, next claimed by another".
 abbrev pub handedOver : ℕ → ℕ → Bool

@@ -1,27 +1,30 @@
 -- What is claimed of the interrupt routines. Propositions only; each is proved in the crate `routine_laws`. Assumes nothing.
--- Source: document 02, 4/14, in its order.
+-- Source: document 02, 4/14, in its order; the counts of dropped triggers are 7/14's.
 use Prim.Native.Nat.{ℕ, suc, _*_, _<_, _≤_, min}
 use mathlib.Core.Path.{_≡_}
 use mathlib.Core.Logic.{_↔_, _≢_}
 use mathlib.Core.List.{List}
-use mathlib.Core.Bool.{true, false}
+use mathlib.Core.Bool.{true, false, cond}
 use Rattle.model.specs.declared.SourceId.{SourceId}
 use Rattle.model.specs.declared.CoreId.{CoreId}
-use Rattle.model.specs.Records.{indexOf, sourceAt, coreAt}
+use Rattle.model.specs.Records.{indexOf, mostDropped, sourceAt, coreAt}
 use Rattle.model.specs.Priorities.{topPriority}
 use Rattle.model.specs.Requests.{waiting, candidate}
 use Rattle.model.specs.Commands.{malformed, badCore, badSource, badPriority, alreadyPending, nothingToClaim, notClaimed, priorityInUse}
+use Rattle.model.specs.Commands.{dropCounted}
 use Rattle.model.specs.Statements.{InRange, turn}
+use Rattle.lists.specs.Numbers.{oneMoreUpTo}
 use Rattle.routines.specs.declared.Routines.{Routines}
 use Rattle.routines.specs.declared.DirectAction.{DirectAction}
 use Rattle.routines.specs.declared.DirectAction.the-variants.{SetPriority, Trigger}
 use Rattle.routines.specs.declared.RoutineCall.{RoutineCall}
 use Rattle.routines.specs.declared.RoutineCall.the-variants.{Direct, Enter, Exit}
 use Rattle.routines.specs.declared.RoutineAnswer.{RoutineAnswer}
-use Rattle.routines.specs.Routines.{activeAt, freshRoutines, soundRoutines, Runs, IdleAt, SoundRoutines, claimOn, handBack}
-use Rattle.routines.specs.Routines.{completeOn, lower, afterRefusedCall, routineAnswer, callRefusal, callRoutine, Handovers, cellAt}
+use Rattle.routines.specs.Routines.{withController, commandOf, activeAt, freshRoutines, soundRoutines, Runs, IdleAt, SoundRoutines}
+use Rattle.routines.specs.Routines.{claimOn, handBack}
+use Rattle.routines.specs.Routines.{completeOn, lower, routineAnswer, callRefusal, callRoutine, Handovers, cellAt}
 use Rattle.routines.specs.Routines.{noHandovers, mostHandovers, tableAfter, runRoutines, runTable}
-use Rattle.routines.specs.History.{handovers, history}
+use Rattle.routines.specs.History.{handovers, dropsCall, droppedIn, history}
 
 -- ---- soundness
 
@@ -56,11 +59,18 @@ pub record CallRefusals (number : ℕ) (s : Routines) (c : RoutineCall) : Type 0
 abbrev pub CallRefusalsExact : Type 0
 CallRefusalsExact = (s : Routines) (c : RoutineCall) → CallRefusals ((callRoutine s c) .number) s c
 
--- "Refusals, changing nothing": a refused call hands back the state given, id 0 and 0 cycles.
+-- "Refusals, changing nothing": a call refused by a number other than 6 hands back the state given, id 0 and 0 cycles.
 abbrev pub RefusedCallUnchanged : Type 0
 RefusedCallUnchanged =
-    (s : Routines) (c : RoutineCall) → (callRoutine s c) .number ≢ 0 →
-    callRoutine s c ≡ routineAnswer (afterRefusedCall s c ((callRoutine s c) .number)) ((callRoutine s c) .number) 0 0
+    (s : Routines) (c : RoutineCall) → (callRoutine s c) .number ≢ 0 → (callRoutine s c) .number ≢ alreadyPending →
+    callRoutine s c ≡ routineAnswer s ((callRoutine s c) .number) 0 0
+
+-- Document 02, 7/14: a call of a command refused by 6 hands back the state given with one more dropped trigger at the source named.
+-- Entry and exit are never refused by 6.
+abbrev pub DroppedCallCounted : Type 0
+DroppedCallCounted =
+    (s : Routines) (id : SourceId) (a : DirectAction) → (callRoutine s (Direct id a)) .number ≡ alreadyPending →
+    callRoutine s (Direct id a) ≡ routineAnswer (withController s (dropCounted (s .controller) (commandOf id a))) alreadyPending 0 0
 
 -- Nor does it count a handover.
 abbrev pub RefusedUncounted : Type 0
@@ -143,3 +153,21 @@ TableIsHistory =
 abbrev pub DiagonalZero : Type 0
 DiagonalZero =
     (n m : ℕ) (cs : List RoutineCall) → InRange n m → (k : ℕ) → cellAt (runTable noHandovers (freshRoutines n m) cs) k k ≡ 0
+
+-- ---- dropped triggers: document 02, 7/14
+
+-- Of every call on every state, and of every source: the count is one more, held, exactly if a trigger of it is answered by 6, else as
+-- before.
+abbrev pub DroppedInCalls : Type 0
+DroppedInCalls =
+    (s : Routines) (c : RoutineCall) (i : ℕ) →
+    let before = (sourceAt (s .controller) i) .dropped in
+    (sourceAt ((callRoutine s c) .state .controller) i) .dropped ≡
+    cond (dropsCall (suc i) c ((callRoutine s c) .number)) (oneMoreUpTo mostDropped before) before
+
+-- "From a fresh controller", in the simulation too.
+abbrev pub DroppedInRuns : Type 0
+DroppedInRuns =
+    (n m : ℕ) (cs : List RoutineCall) (i : ℕ) →
+    (sourceAt ((runRoutines (freshRoutines n m) cs) .controller) i) .dropped ≡
+    min mostDropped (droppedIn (history (freshRoutines n m) cs) (suc i))

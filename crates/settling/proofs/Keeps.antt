@@ -68,6 +68,9 @@ module _ (s s′ : Controller) (kept : Kept s s′) where
   pub kept-priority : (i : ℕ) → (sourceAt s′ i) .priority ≡ (sourceAt s i) .priority
   kept-priority i = ap (λ (r : Source). r .priority) (kept-source i)
 
+  pub kept-dropped : (i : ℕ) → (sourceAt s′ i) .dropped ≡ (sourceAt s i) .dropped
+  kept-dropped i = ap (λ (r : Source). r .dropped) (kept-source i)
+
   -- all of a core but its box
   pub kept-core-configured : (k : ℕ) → (coreAt s′ k) .configured ≡ (coreAt s k) .configured
   kept-core-configured k =

@@ -2,10 +2,11 @@
 --   cores-fit                    the number of cores that is read
 --   bad-source, named-by         a source that there isn't, and one that there is; some-id, in-array are its id and its place
 --   Judged, judged               what the checks find of the record named
---   refused-later                a refused command leaves bytes and numbers as they were
+--   refused-later                a refused command leaves bytes and numbers as they were, but for 6
+--   dropped                      a trigger refused by 6: the record with one more dropped is stored
 --   offered, accepted            the record stored, and its request offered: the answer is the definition's
 use Prim.Native.Nat.{ℕ, _-_, _<_, _≤_}
-use mathlib.Core.Path.{_≡_, sym, ap₂, subst, _∙_}
+use mathlib.Core.Path.{_≡_, sym, ap, ap₂, subst, _∙_}
 use mathlib.Core.Logic.{_≢_}
 use mathlib.Core.List.{List}
 use mathlib.Core.Bool.{Bool, true, false, not, _&&_}
@@ -21,10 +22,11 @@ use Rattle.model.specs.declared.Controller.{Controller}
 use Rattle.model.specs.declared.Answer.{Answer}
 use Rattle.model.specs.declared.Command.the-variants.{OnSource}
 use Rattle.model.specs.declared.SourceAction.{SourceAction}
-use Rattle.model.specs.Records.{maxSources, maxCores, noSource, indexOf, sourceAt, withSource}
+use Rattle.model.specs.Records.{maxSources, maxCores, noSource, indexOf, droppedOne, sourceAt, withSource, answer}
 use Rattle.model.specs.Requests.{boxed, claimed}
 use Rattle.model.specs.WellFormed.{Consistent, wellFormed}
-use Rattle.model.specs.Commands.{namesSource, sourceAfter, sourceRefusal, effect, refusalOf, refusal}
+use Rattle.model.specs.Commands.{namesSource, sourceAfter, sourceRefusal, effect, alreadyPending, refusalOf, refusal, dropCounted}
+use Rattle.model.specs.Commands.{afterRefusal, execute}
 use Rattle.model.specs.Statements.{deliveredOnce}
 use Rattle.checks.specs.Refusals.{sourceRefusalBy}
 use Rattle.checks.proofs.Decided.{claimed-at, number-is}
@@ -32,6 +34,7 @@ use Rattle.arbitration.specs.Places.{rankAt}
 use Rattle.well_formed.proofs.Test.{wellFormed-in}
 use Rattle.effects.proofs.Effects.{effect-consistent}
 use Rattle.effects.proofs.Answers.{at-name, at-later, free}
+use Rattle.effects.proofs.Dropped.{kept, counted}
 use Rattle.effects.proofs.OneDelivery.{one-delivery}
 use Rattle.layout.specs.Bytes.{wordAt, sourceBytes, sourceFrom, stateFrom}
 use Rattle.layout.proofs.InPlace.{source-read}
@@ -95,21 +98,18 @@ module _ {b keys ranks : List ℕ} (p : Ready b keys ranks) where
         }
 
   module _ {id : SourceId} {a : SourceAction} {m k : ℕ} {r : Source} (l : Judged s id a m r k) where
-    pub refused-later : {o : Outcome} → k ≢ 0 → Says o k 0 0 → Executed b (OnSource id a) o b keys ranks
-    refused-later h says = refused (p .held) (OnSource id a) (at-later s (OnSource id a) tested (l .named) k (l .number-found) h) says
+    refused-by : k ≢ 0 → answer (afterRefusal s (OnSource id a) k) k 0 0 ≡ execute s (OnSource id a)
+    refused-by = at-later s (OnSource id a) tested (l .named) k (l .number-found)
+
+    pub refused-later : {o : Outcome} → k ≢ 0 → k ≢ alreadyPending → Says o k 0 0 → Executed b (OnSource id a) o b keys ranks
+    refused-later h other says =
+        refused (p .held) (OnSource id a) (ap (λ t. answer t k 0 0) (sym (kept s (OnSource id a) k other)) ∙ refused-by h) says
 
     -- the record q is stored
-    module _ (passes : k ≡ 0) {q : Source} (new : q ≡ sourceAfter a r) {b₁ ranks₁ : List ℕ}
+    module _ (q : Source) {b₁ ranks₁ : List ℕ}
         (stored : (b₁ ≡ sets b (sourcePlace (id .0 - 1)) (sourceBytes q)) × (ranks₁ ≡ set ranks (id .0 - 1) (rankAt (id .0 - 1) q))) where
       abbrev i : ℕ
       i = id .0 - 1
-
-      free-of : refusalOf s (OnSource id a) ≡ 0
-      free-of = free s (OnSource id a) tested (l .named) (sym (l .number-found) ∙ passes)
-
-      same : withSource s i q ≡ effect s (OnSource id a)
-      unfolding effect
-      same = rw (new, l .record-is, sub-one (id .0))
 
       held : Held (withSource s i q) b₁ keys ranks₁
       held = held-source (p .held) i (in-array id (l .named)) q (stored .0) (stored .1)
@@ -117,24 +117,43 @@ module _ {b keys ranks : List ℕ} (p : Ready b keys ranks) where
       back : stateFrom b₁ ≡ withSource s i q
       back = held-back held
 
-      pub offered : Offered (stateFrom b₁) b₁ keys ranks₁ m i q
-      offered =
-          subst (λ (e : Controller). Offered e b₁ keys ranks₁ m i q) (sym back)
-          (record {
-            held = held;
-            consistent = subst Consistent (sym same) (effect-consistent s (OnSource id a) (p .sound) free-of);
-            cores-are = l .cores-are;
-            source-in = omega (arith, range id (l .named));
-            record-is = sym (getD-set-same (s .sources) i q noSource (omega (arith, in-array id (l .named), p .held .sized .sources)));
-          })
+      -- with one more dropped trigger
+      pub dropped :
+          {o : Outcome} → k ≡ alreadyPending → q ≡ droppedOne r → Says o k 0 0 → Executed b (OnSource id a) o b₁ keys ranks₁
+      dropped {o} pending new says =
+          let same : withSource s i q ≡ dropCounted s (OnSource id a) = rw (new, l .record-is, sub-one (id .0)) in
+          subst (λ (y : Answer). Leaves y o b₁ keys ranks₁)
+          (ap (λ t. answer t k 0 0) (same ∙ sym (counted s (OnSource id a) k pending)) ∙
+          refused-by (λ e. absurd (omega (arith, sym pending ∙ e))))
+          (record { says = says; held = held })
 
-      unrefused : refusal s (OnSource id a) ≡ 0
-      unfolding refusal
-      unrefused = rw tested free-of
+      -- after the command's action
+      module _ (passes : k ≡ 0) (new : q ≡ sourceAfter a r) where
+        free-of : refusalOf s (OnSource id a) ≡ 0
+        free-of = free s (OnSource id a) tested (l .named) (sym (l .number-found) ∙ passes)
 
-      pub accepted :
-          {o : Outcome} {b′ keys′ ranks′ : List ℕ} → Leaves (deliveredOnce (stateFrom b₁) i) o b′ keys′ ranks′ →
-          Executed b (OnSource id a) o b′ keys′ ranks′
-      accepted {o} {b′} {keys′} {ranks′} done =
-          subst (λ (y : Answer). Leaves y o b′ keys′ ranks′)
-          (ap₂ deliveredOnce (back ∙ same) (sub-one (id .0)) ∙ sym (one-delivery s id a unrefused)) done
+        same : withSource s i q ≡ effect s (OnSource id a)
+        unfolding effect
+        same = rw (new, l .record-is, sub-one (id .0))
+
+        pub offered : Offered (stateFrom b₁) b₁ keys ranks₁ m i q
+        offered =
+            subst (λ (e : Controller). Offered e b₁ keys ranks₁ m i q) (sym back)
+            (record {
+              held = held;
+              consistent = subst Consistent (sym same) (effect-consistent s (OnSource id a) (p .sound) free-of);
+              cores-are = l .cores-are;
+              source-in = omega (arith, range id (l .named));
+              record-is = sym (getD-set-same (s .sources) i q noSource (omega (arith, in-array id (l .named), p .held .sized .sources)));
+            })
+
+        unrefused : refusal s (OnSource id a) ≡ 0
+        unfolding refusal
+        unrefused = rw tested free-of
+
+        pub accepted :
+            {o : Outcome} {b′ keys′ ranks′ : List ℕ} → Leaves (deliveredOnce (stateFrom b₁) i) o b′ keys′ ranks′ →
+            Executed b (OnSource id a) o b′ keys′ ranks′
+        accepted {o} {b′} {keys′} {ranks′} done =
+            subst (λ (y : Answer). Leaves y o b′ keys′ ranks′)
+            (ap₂ deliveredOnce (back ∙ same) (sub-one (id .0)) ∙ sym (one-delivery s id a unrefused)) done

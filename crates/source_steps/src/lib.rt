@@ -11,6 +11,7 @@ ghost use Rattle.layout.specs.Bytes.{stateSize, stateFrom};
 ghost use Rattle.in_place.specs.Steps.{Ready, Leaves, Executed};
 ghost use Rattle.source_steps.specs.Offers.{Offered};
 use arbitration::places;
+use checks::numbers::ALREADY_PENDING;
 use checks::numbers::BAD_SOURCE;
 use in_place::Outcome;
 use in_place::answered;
@@ -81,7 +82,7 @@ pub fn is_claimed(state: &[u8], m: usize, id: SourceId, r: Source) -> bool
     !boxed(state, m, id)
 }
 
-// A command on a source: decided by its record, then stored.
+// A command on a source: decided by its record, then stored. A trigger refused because one is pending is counted in that record.
 pub fn on_source(
     state: &mut [u8],
     keys: &mut [u32; CORES],
@@ -102,6 +103,10 @@ pub fn on_source(
     let r = decoding::source_at(state, i);
     let claimed = is_claimed(state, m, id, r);
     let number = checks::source_refusal(n, r, claimed, a);
+    if number == ALREADY_PENDING {
+        in_place::put_source(state, ranks, i, records::dropped_one(r));
+        return answered(number, SourceId(0), 0);
+    }
     if number != 0 {
         return answered(number, SourceId(0), 0);
     }

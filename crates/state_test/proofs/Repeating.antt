@@ -62,7 +62,8 @@ module _ (b : List ℕ) where
         let pending = flag-same (p + 3) (q + 3) (omega arith) (omega arith) (omega arith) in
         let delivered = flag-same (p + 4) (q + 4) (omega arith) (omega arith) (omega arith) in
         let priority = word-same (p + 5) (q + 5) (omega arith) (omega arith) (omega arith) in
-        λ t. sourceWith (configured t) (masked t) (pending t) (delivered t) (priority t)
+        let dropped = word-same (p + 7) (q + 7) (omega arith) (omega arith) (omega arith) in
+        λ t. sourceWith (configured t) (masked t) (pending t) (delivered t) (priority t) (dropped t)
 
     core-same : (p q : ℕ) → from ≤ p → p + coreSize ≤ to → q ≡ p + step → coreFrom b p ≡ coreFrom b q
     core-same p q h g s =

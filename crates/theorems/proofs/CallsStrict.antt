@@ -5,6 +5,7 @@ use mathlib.Core.List.{List, [], _∷_}
 use native.Mathlib.Omega.{arith}
 use Rattle.model.specs.Behaviours.{answersBy, runBy}
 use Rattle.theorems.proofs.DemandThree.{reset-strict}
+use Rattle.effects.proofs.Counts.{dropped-is-history}
 use Rattle.model.specs.declared.Controller.{Controller}
 use Rattle.model.specs.declared.Command.{Command}
 use Rattle.model.specs.declared.Command.the-variants.{OnSource, OnCore}
@@ -75,4 +76,5 @@ calls-strict n m b cs R h =
     let w = reset-wellFormed n m R in
     let (bytes, told) = calls-run (reset n m) cs w in
     let last = run (reset n m) cs in
-    rw (fresh n m R b h, told, bytes, state-read-back last (sized last (run-wellFormed (reset n m) cs w))) (reset-strict n m cs R)
+    rw (fresh n m R b h, told, bytes, state-read-back last (sized last (run-wellFormed (reset n m) cs w)))
+    (reset-strict n m cs R, dropped-is-history n m cs)

@@ -1,6 +1,6 @@
 -- The statements on refusals are false of controllers that refuse wrongly. Assumes nothing.
 --   fails-refusals     a number other than `execute`'s, at one state and command: the rows fit no two
---   fails-unchanged    a refusal's answer that differs, in one number, from the state given with id 0 and 0 cycles
+--   fails-unchanged    the answer of a refusal, other than 6, that differs, in one number, from the state given with id 0 and 0 cycles
 use Prim.Native.Nat.{ℕ}
 use mathlib.Core.Path.{_≡_, refl, ap}
 use mathlib.Core.Logic.{_≢_}
@@ -14,7 +14,7 @@ use Rattle.model.specs.declared.Command.the-variants.{OnSource, OnCore}
 use Rattle.model.specs.declared.SourceAction.the-variants.{SetSourcePriority, Trigger}
 use Rattle.model.specs.declared.CoreAction.the-variants.{SetCorePriority}
 use Rattle.model.specs.Records.{sourceId, coreId, sourceAt, answer}
-use Rattle.model.specs.Commands.{execute}
+use Rattle.model.specs.Commands.{alreadyPending, execute}
 use Rattle.model.specs.Behaviours.{Behaviour}
 use Rattle.model.specs.Statements.{RefusalsExact, RefusedUnchanged}
 use Rattle.model.specs.Cases.{start}
@@ -27,10 +27,10 @@ module _ (x : Behaviour) (s : Controller) (c : Command) where
   fails-refusals differ h = eqb-false _ _ differ (number-unique s c ((x s c) .number) (h s c))
 
   pub fails-unchanged :
-      (read : Answer → ℕ) → eqb ((x s c) .number) 0 ≡ false →
+      (read : Answer → ℕ) → eqb ((x s c) .number) 0 ≡ false → eqb ((x s c) .number) alreadyPending ≡ false →
       eqb (read (x s c)) (read (answer s ((x s c) .number) 0 0)) ≡ false →
       ¬ RefusedUnchanged x
-  fails-unchanged read refused differ h = eqb-false _ _ differ (ap read (h s c (eqb-false _ _ refused)))
+  fails-unchanged read refused other differ h = eqb-false _ _ differ (ap read (h s c (eqb-false _ _ refused) (eqb-false _ _ other)))
 
 -- T2 is accepted
 pub refuseEverything-fails-refusals : (number : ℕ) → number ≢ 0 → ¬ RefusalsExact (refuseEverything number)
@@ -59,9 +59,9 @@ setsUnderRequest-fails-refusals =
 pub freshWhenRefused-fails-unchanged : ¬ RefusedUnchanged freshWhenRefused
 unfolding computed
 freshWhenRefused-fails-unchanged =
-    fails-unchanged freshWhenRefused start (OnSource (sourceId 33) Trigger) (λ a. (sourceAt (a .state) 3) .configured) refl refl
+    fails-unchanged freshWhenRefused start (OnSource (sourceId 33) Trigger) (λ a. (sourceAt (a .state) 3) .configured) refl refl refl
 
 -- id 33 of 32: 4 cycles
 pub alwaysTwoM-fails-unchanged : ¬ RefusedUnchanged alwaysTwoM
 unfolding computed
-alwaysTwoM-fails-unchanged = fails-unchanged alwaysTwoM start (OnSource (sourceId 33) Trigger) (λ a. a .cycles) refl refl
+alwaysTwoM-fails-unchanged = fails-unchanged alwaysTwoM start (OnSource (sourceId 33) Trigger) (λ a. a .cycles) refl refl refl

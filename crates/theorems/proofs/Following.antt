@@ -10,13 +10,14 @@ use native.Mathlib.Omega.{arith}
 use lib.Dec.{eqb}
 use borrow.Author.Tests.{eqb-true}
 use Rattle.lists.proofs.Bools.{Flag, on, off, flag, clash}
+use Rattle.model.specs.declared.Source.{Source}
 use Rattle.model.specs.declared.Controller.{Controller}
 use Rattle.model.specs.declared.Command.{Command}
 use Rattle.model.specs.declared.Command.the-variants.{OnSource, OnCore}
 use Rattle.model.specs.declared.SourceAction.{SourceAction}
 use Rattle.model.specs.declared.SourceAction.the-variants.{SetSourcePriority, Mask, Unmask, Trigger, Redeliver, Complete}
 use Rattle.model.specs.Records.{indexOf, sourceAt, reset}
-use Rattle.model.specs.Commands.{effect, refusal, settled, refused, execute, run}
+use Rattle.model.specs.Commands.{effect, refusal, settled, afterRefusal, refused, execute, run}
 use Rattle.model.specs.Behaviours.{runBy}
 use Rattle.model.specs.Settling.{settle}
 use Rattle.model.specs.Ledger.{Ledger, opening, ledger, requestPriority, entries}
@@ -25,6 +26,7 @@ use Rattle.settling.specs.Phases.{Kept}
 use Rattle.settling.proofs.Keeps.{kept-pending, kept-priority, kept-configured, settling-leaves-bare}
 use Rattle.well_formed.proofs.Reset.{source-reset, reset-wellFormed}
 use Rattle.effects.proofs.Accepted.{by-answer}
+use Rattle.effects.proofs.Dropped.{drop-read}
 use Rattle.effects.proofs.Checked.{SourceChecked, Checked, by-index, accepted}
 use Rattle.theorems.specs.Matches.{Matches}
 use Rattle.theorems.proofs.Rows.{rows-met}
@@ -59,6 +61,14 @@ settle-follows f s i follows e =
     kept-priority s (settle f s) kept i ∙
     follows (sym (kept-pending s (settle f s) kept i) ∙ e) ∙ sym (kept-configured s (settle f s) kept i)
 
+-- and what a refusal keeps
+refused-follows :
+    (s : Controller) (c : Command) (number i : ℕ) → Follows (sourceAt s i) → Follows (sourceAt (afterRefusal s c number) i)
+refused-follows s c number i follows e =
+    drop-read (λ (r : Source). r .priority) (λ x r. refl) s c number i ∙
+    follows (sym (drop-read (λ (r : Source). r .pending) (λ x r. refl) s c number i) ∙ e) ∙
+    sym (drop-read (λ (r : Source). r .configured) (λ x r. refl) s c number i)
+
 module _ (s : Controller) (c : Command) (i : ℕ) (f : Follows (sourceAt s i)) where
   effect-follows : refusal s c ≡ 0 → Follows (sourceAt (effect s c) i)
   effect-follows e = rw (rows-met s c e .sources i) (rowed s c (accepted s c e .1) i f)
@@ -68,7 +78,7 @@ module _ (s : Controller) (c : Command) (i : ℕ) (f : Follows (sourceAt s i)) w
   follows-kept =
       by-answer s c (λ a. Follows (sourceAt (a .state) i))
       (λ e. settle-follows (2 * (effect s c) .m) (effect s c) i (effect-follows e))
-      (λ h. f)
+      (λ h. refused-follows s c (refusal s c) i f)
 
 -- ---- a list of commands
 

@@ -12,7 +12,7 @@ use borrow.Author.Tests.{eqb-true}
 use Rattle.lists.proofs.Bools.{and-l, and-r, Flag, on, off, flag}
 use Rattle.model.specs.declared.Decoded.{Decoded}
 use Rattle.model.specs.declared.Decoded.the-variants.{Unknown, Known}
-use Rattle.model.specs.Commands.{execute, make}
+use Rattle.model.specs.Commands.{alreadyPending, execute, make}
 use Rattle.layout.specs.Commands.{commandOf}
 use Rattle.layout.specs.Bytes.{stateSize, stateBytes, stateFrom, isState, commandsIn, answerSize, numberIn, Call, makeCall, executedOn}
 use Rattle.layout.specs.Bytes.{executeCall, noCount, roomFor, fitsRun}
@@ -24,17 +24,20 @@ use Rattle.layout.proofs.Fives.{fives-length}
 use Rattle.layout.proofs.Machines.{answers-length, answers-in-front}
 use Rattle.layout.proofs.Lists.{answers-fit}
 use Rattle.exports.proofs.Calls.{run-by}
-use Rattle.theorems.proofs.AnswerBytes.{refused-state, kept-refused}
+use Rattle.theorems.proofs.AnswerBytes.{refused-state, Unaltered, kept-refused}
 
--- a call that answers a number other than 0 leaves the bytes b
+-- a call that answers a number other than 0, and of a command other than 6, leaves the bytes b
+abbrev MakeKeeps : List ℕ → Call → Type 0
+MakeKeeps b call = numberIn (call .result) ≢ 0 → call .bytes ≡ b
+
 abbrev Keeps : List ℕ → Call → Type 0
-Keeps b call = numberIn (call .result) ≢ 0 → call .bytes ≡ b
+Keeps b call = numberIn (call .result) ≢ 0 → numberIn (call .result) ≢ alreadyPending → call .bytes ≡ b
 
 pub refused-make-keeps : RefusedMakeKeeps
 unfolding makeCall
 refused-make-keeps n m b = go (flag (eqb (length b) stateSize)) (flag (eqb ((make n m) .number) 0))
   where
-    go : Flag (eqb (length b) stateSize) → Flag (eqb ((make n m) .number) 0) → Keeps b (makeCall n m b)
+    go : Flag (eqb (length b) stateSize) → Flag (eqb ((make n m) .number) 0) → MakeKeeps b (makeCall n m b)
     go (off e) f = rw e (λ h. refl)
     go (on e) (off f) = rw (e, f) (λ h. refl)
     go (on e) (on f) =
@@ -43,10 +46,11 @@ refused-make-keeps n m b = go (flag (eqb (length b) stateSize)) (flag (eqb ((mak
 
 -- on bytes that encode a state
 executed-keeps : (b : List ℕ) → AreBytes b → isState b ≡ true → (d : Decoded) → Keeps b (executedOn b d)
-executed-keeps b are e Unknown h = refl
-executed-keeps b are e (Known c) h =
-    let refused : (execute (stateFrom b) c) .number ≢ 0 = λ q. h (omega (arith, q)) in
-    ap stateBytes (refused-state (stateFrom b) c refused) ∙ bytes-written-back b are e
+executed-keeps b are e Unknown h other = refl
+executed-keeps b are e (Known c) h other =
+    let some : (execute (stateFrom b) c) .number ≢ 0 = λ q. h (omega (arith, q)) in
+    let unaltered : (execute (stateFrom b) c) .number ≢ alreadyPending = λ q. other (omega (arith, q)) in
+    ap stateBytes (refused-state (stateFrom b) c some unaltered) ∙ bytes-written-back b are e
 
 pub refused-execute-keeps : RefusedExecuteKeeps
 unfolding executeCall
@@ -54,7 +58,7 @@ refused-execute-keeps number at p b are = go (flag (isState b))
   where
     go : Flag (isState b) → Keeps b (executeCall number at p b)
     go (on e) = rw e (executed-keeps b are e (commandOf number at p))
-    go (off e) = rw e (λ h. refl)
+    go (off e) = rw e (λ h other. refl)
 
 -- ---- a list
 
@@ -70,7 +74,7 @@ room b list answers e = answers-fit list answers readCommand (and-r (isState b) 
 
 pub all-refused-keeps : AllRefusedKeeps
 all-refused-keeps b list answers are =
-    run-by b list answers (λ ran. ((i : ℕ) → i < ran .result → getD (ran .answers) (answerSize * i) 0 ≢ 0) → ran .bytes ≡ b)
+    run-by b list answers (λ ran. ((i : ℕ) → i < ran .result → Unaltered (ran .answers) i) → ran .bytes ≡ b)
     (λ e h.
     let s = stateFrom b in
     let cs = commandsIn list in

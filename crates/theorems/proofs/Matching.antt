@@ -6,6 +6,7 @@ use mathlib.Core.Bool.{true, false}
 use native.Mathlib.Omega.{arith}
 use borrow.Author.Tests.{ne-eqb}
 use Rattle.model.specs.declared.SourceId.{SourceId}
+use Rattle.model.specs.declared.Source.{Source}
 use Rattle.model.specs.declared.CoreId.{CoreId}
 use Rattle.model.specs.declared.Core.{Core}
 use Rattle.model.specs.declared.Controller.{Controller}
@@ -14,20 +15,21 @@ use Rattle.model.specs.declared.Command.{Command}
 use Rattle.model.specs.declared.Command.the-variants.{OnSource, OnCore}
 use Rattle.model.specs.declared.SourceAction.the-variants.{SetSourcePriority, Mask, Unmask, Trigger, Redeliver, Complete}
 use Rattle.model.specs.declared.CoreAction.the-variants.{SetCorePriority, Claim}
-use Rattle.model.specs.Records.{sourceId, coreAt, withCore}
+use Rattle.model.specs.Records.{sourceId, sourceAt, coreAt, withCore}
 use Rattle.model.specs.Requests.{claimed}
 use Rattle.model.specs.WellFormed.{WellFormed, Holding}
 use Rattle.model.specs.Settling.{settle}
-use Rattle.model.specs.Commands.{claimedCore, effect, refusal, answeredId, settled, refused}
+use Rattle.model.specs.Commands.{claimedCore, effect, refusal, answeredId, settled, afterRefusal, refused}
 use Rattle.model.specs.Ledger.{Ledger, postAccepted, post}
 use Rattle.settling.specs.Phases.{Kept}
 use Rattle.settling.proofs.Keeps.{kept-n, kept-m, kept-configured, kept-masked, kept-pending, kept-priority, kept-core-configured}
 use Rattle.settling.proofs.Keeps.{settling-leaves-bare}
 use Rattle.effects.proofs.Accepted.{by-answer}
+use Rattle.effects.proofs.Dropped.{beside, drop-read}
 use Rattle.effects.proofs.Checked.{Named, Checked, by-index, accepted}
 use Rattle.model.proofs.Claims.{claimed-out}
 use Rattle.effects.proofs.Kept.{execute-settles}
-use Rattle.theorems.specs.Matches.{Matches, requestOf, MatchKept}
+use Rattle.theorems.specs.Matches.{Matches, requestIn, requestOf, MatchKept}
 use Rattle.theorems.proofs.SourceMatching.{configured-matches, mask-matches, trigger-matches, redeliver-matches, complete-matches}
 use Rattle.theorems.proofs.CoreMatching.{core-priority-matches, claim-matches}
 
@@ -83,9 +85,25 @@ settle-matches n m b s s′ M K same =
     request-kept : (i : ℕ) → claimed s′ i ≡ claimed s i → requestOf s i ≡ requestOf s′ i
     request-kept i e = rw (e, kept-pending s s′ K i, kept-priority s s′ K i)
 
+-- nor does a refusal
+refused-matches :
+    (n m : ℕ) (b : Ledger) (s : Controller) (c : Command) (number : ℕ) → Matches n m b s → Matches n m b (afterRefusal s c number)
+refused-matches n m b s c number M =
+    record {
+      n-same = beside (λ t. t .n) s (λ l. refl) c number ∙ M .n-same;
+      m-same = beside (λ t. t .m) s (λ l. refl) c number ∙ M .m-same;
+      core = λ k h. M .core k h ∙ sym (beside (λ t. (coreAt t k) .configured) s (λ l. refl) c number);
+      configured = λ i h. M .configured i h ∙ sym (drop-read (λ (r : Source). r .configured) (λ x r. refl) s c number i);
+      masked = λ i h. M .masked i h ∙ sym (drop-read (λ (r : Source). r .masked) (λ x r. refl) s c number i);
+      request = λ i h.
+          let r = sourceAt (afterRefusal s c number) i in
+          M .request i h ∙ sym (drop-read (requestIn s i) (λ x r. refl) s c number i) ∙
+          sym (beside (λ t. requestIn t i r) s (λ l. refl) c number);
+    }
+
 pub match-kept : MatchKept
 unfolding post settled refused
-match-kept n m b s c W M = by-answer s c Answered settles (λ h. rw (ne-eqb (refusal s c) 0 h) M)
+match-kept n m b s c W M = by-answer s c Answered settles (λ h. rw (ne-eqb (refusal s c) 0 h) (refused-matches n m b s c (refusal s c) M))
   where
     -- what is to be shown of the answer
     Answered : Answer → Type 0

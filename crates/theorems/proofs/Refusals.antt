@@ -28,11 +28,14 @@ use Rattle.lists.specs.Numbers.{between}
 use Rattle.lists.proofs.Exact.{between-exact}
 use Rattle.lists.proofs.Bools.{Flag, on, off, flag, clash}
 use Rattle.model.specs.WellFormed.{wellFormed, WellFormed}
+use Rattle.model.specs.Commands.{alreadyPending, dropCounted}
 use Rattle.model.specs.Commands.{unless, namesSource, namesCore, sourceRefusal, coreRefusal, refusalOf, refusal, settled, refused, execute}
 use Rattle.model.specs.Statements.{Row, not-sound, no-core, no-source, source-priority, core-priority, is-pending, empty-box}
 use Rattle.model.specs.Statements.{not-redelivered, not-completed, in-use, turn, Refusals, RefusalsExact, RefusalAnswered, RefusedUnchanged}
+use Rattle.model.specs.Statements.{DroppedCounted}
 use Rattle.well_formed.proofs.Test.{test-exact}
 use Rattle.effects.proofs.Accepted.{by-answer}
+use Rattle.effects.proofs.Dropped.{kept}
 
 abbrev First : Controller → Command → ℕ → Type 0
 First s c k = Row s c k × ((j : ℕ) → Row s c j → turn k ≤ turn j)
@@ -314,4 +317,12 @@ at-most-nine s c = go ((execute s c) .number) (refusals-exact s c)
 
 pub refused-unchanged : RefusedUnchanged execute
 unfolding refused settled
-refused-unchanged s c = by-answer s c (λ a. a .number ≢ 0 → a ≡ answer s (a .number) 0 0) (λ e h. absurd (h refl)) (λ h n. refl)
+refused-unchanged s c =
+    by-answer s c (λ a. a .number ≢ 0 → a .number ≢ alreadyPending → a ≡ answer s (a .number) 0 0) (λ e h. absurd (h refl))
+    (λ h n other. ap (λ t. answer t (refusal s c) 0 0) (kept s c (refusal s c) other))
+
+pub dropped-counted : DroppedCounted execute
+unfolding refused settled
+dropped-counted s c =
+    by-answer s c (λ a. a .number ≡ alreadyPending → a ≡ answer (dropCounted s c) alreadyPending 0 0) (λ e six. absurd (omega (arith, six)))
+    (λ h six. ap (refused s c) six)

@@ -1,4 +1,4 @@
--- Demand 3 of a list run from a fresh controller's bytes (`RunStrict`): the bytes that making writes are those of the reset controller,
+-- Demand 3, and the counts of dropped triggers, of a list run from a fresh controller's bytes (`RunStrict`): the bytes that making writes are those of the reset controller,
 -- the entries read from the answers' bytes are those of the commands, and the state read from the bytes handed back is that after them, of
 -- which the theorem over every list of commands speaks. Assumes nothing.
 use Prim.Native.Nat.{ℕ, _*_, _/_, _%_, _≤_}
@@ -20,6 +20,7 @@ use Rattle.model.specs.Statements.{InRange}
 use Rattle.well_formed.proofs.Reset.{reset-wellFormed, makes-exactly}
 use Rattle.effects.proofs.Kept.{wellFormed-kept}
 use Rattle.theorems.proofs.DemandThree.{reset-strict}
+use Rattle.effects.proofs.Counts.{dropped-is-history}
 use Rattle.layout.specs.Statements.{Sized}
 use Rattle.layout.proofs.RoundTrip.{state-read-back, state-encoded}
 use Rattle.layout.proofs.Commands.{commands-read-back}
@@ -55,6 +56,7 @@ module _ (n m : ℕ) (R : InRange n m) where
       record {
         taken = refl;
         strict = rw (there, entries-read s cs rest, state-read-back (run s cs) (sized (run s cs) w)) (reset-strict n m cs R);
+        counted = rw (there, entries-read s cs rest, state-read-back (run s cs) (sized (run s cs) w)) (dropped-is-history n m cs);
         cycles = rw there (cycles-told m s cs rest refl);
       }
 

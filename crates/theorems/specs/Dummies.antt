@@ -1,7 +1,7 @@
 -- Wrong controllers: the dummies of document 01, and some that a weaker statement would let pass. Definitions only; nothing here
 -- needs to be believed. Each is a function from a state and a command to an answer, as `execute` is.
--- Source: document 01, "How tight each statement is" and "Numbers for no"; what requests 2 and 5 of document 02 changed.
-use Prim.Native.Nat.{ℕ, zero, suc, _*_}
+-- Source: document 01, "How tight each statement is" and "Numbers for no"; what requests 2, 5 and 7 of document 02 changed.
+use Prim.Native.Nat.{ℕ, zero, suc, _+_, _*_, _%_}
 use mathlib.Core.List.{map}
 use mathlib.Core.Bool.{Bool, true, _&&_, cond}
 use lib.Dec.{ltb, eqb}
@@ -12,13 +12,14 @@ use Rattle.model.specs.declared.Cycle.the-variants.{Retract}
 use Rattle.model.specs.declared.Command.{Command}
 use Rattle.model.specs.declared.Command.the-variants.{OnSource, OnCore}
 use Rattle.model.specs.declared.SourceAction.the-variants.{SetSourcePriority, Mask, Unmask, Trigger, Redeliver, Complete}
-use Rattle.model.specs.Records.{coreId, indexOf, sourceAt, coreAt, withDelivered, emptyBox, coreWith, controllerWith, withCores, withSource}
-use Rattle.model.specs.Records.{reset, answer}
+use Rattle.model.specs.Records.{coreId, indexOf, sourceAt, coreAt, withDelivered, withDropped, emptyBox, coreWith, controllerWith, withCores}
+use Rattle.model.specs.Records.{withSource, reset, answer}
 use Rattle.model.specs.Requests.{currentPriority}
 use Rattle.lists.specs.Walks.{some, walk}
 use Rattle.model.specs.Arbitration.{highest}
 use Rattle.model.specs.Settling.{firstDirty, arbitrate, apply}
-use Rattle.model.specs.Commands.{priorityInUse, sourceRefusal, coreRefusal, refusal, effect, answeredId, settled, execute}
+use Rattle.model.specs.Commands.{alreadyPending, priorityInUse, sourceRefusal, coreRefusal, refusal, effect, answeredId, settled}
+use Rattle.model.specs.Commands.{dropCounted, execute}
 use Rattle.model.specs.Behaviours.{Behaviour}
 
 -- ---- the dummies of document 01
@@ -98,6 +99,12 @@ tieToLowest s c =
 
 -- ---- controllers that refuse wrongly
 
+-- The state with f of the count at the source that a command names.
+abbrev pub recounted : (ℕ → ℕ) → Controller → Command → Controller
+recounted f s (OnSource id a) =
+    withSource s (indexOf id) (withDropped (f ((sourceAt s (indexOf id)) .dropped)) (sourceAt s (indexOf id)))
+recounted f s (OnCore k a) = s
+
 -- A refusal hands back the fresh state.
 abbrev pub freshWhenRefused : Behaviour
 freshWhenRefused s c =
@@ -115,6 +122,33 @@ laterRefusal s (OnCore k a) = coreRefusal s (k .0) a
 -- The priority is checked before the id: 5 where 4 is due.
 abbrev pub priorityFirst : Behaviour
 priorityFirst s c = cond (eqb ((execute s c) .number) 4 && eqb (laterRefusal s c) 5) (answer s 5 0 0) (execute s c)
+
+-- No trigger is counted as dropped: document 01's rule before request 7.
+abbrev pub uncounted : Behaviour
+uncounted s c = cond (eqb ((execute s c) .number) alreadyPending) (answer s alreadyPending 0 0) (execute s c)
+
+-- A count at 65,535 goes on from 0.
+abbrev pub wrapping : Behaviour
+wrapping s c =
+    cond (eqb ((execute s c) .number) alreadyPending) (answer (recounted (λ x. (x + 1) % 65536) s c) alreadyPending 0 0) (execute s c)
+
+-- Every refusal of a command on a source counts there.
+abbrev pub countsRefusals : Behaviour
+countsRefusals s c =
+    cond (eqb ((execute s c) .number) 0) (execute s c) (answer (dropCounted s c) ((execute s c) .number) 0 0)
+
+-- A complete clears its source's count.
+abbrev pub clearedBy : Command → Controller → Controller
+clearedBy (OnSource id (SetSourcePriority p)) s = s
+clearedBy (OnSource id Mask) s = s
+clearedBy (OnSource id Unmask) s = s
+clearedBy (OnSource id Trigger) s = s
+clearedBy (OnSource id Redeliver) s = s
+clearedBy (OnSource id Complete) s = withSource s (indexOf id) (withDropped 0 (sourceAt s (indexOf id)))
+clearedBy (OnCore k a) s = s
+
+abbrev pub completeClears : Behaviour
+completeClears s c = handingBack (clearedBy c) s c
 
 -- Set source priority is accepted on a pending source, whose request keeps its own: document 01's rule before request 5.
 abbrev pub setsUnderRequest : Behaviour

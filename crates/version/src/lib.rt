@@ -5,7 +5,7 @@ ghost use Rattle.version.specs.Version.{versionOf};
 // The version, as the header's PSIC_VERSION writes it.
 #[no_mangle]
 pub extern "C" fn psic_version() -> u32
-    ensures { λ r. ⌜ r ≡ versionOf 3 1 0 ⌝ }
+    ensures { λ r. ⌜ r ≡ versionOf 4 0 0 ⌝ }
 {
-    30100
+    40000
 }

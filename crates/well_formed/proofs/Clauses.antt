@@ -43,10 +43,11 @@ unfolding isResetSource
 reset-source-exact r =
     let x =
     eqb-exact (r .configured) 1 and
-    flag-exact (r .masked) and not-exact (r .pending) and not-exact (r .delivered) and eqb-exact (r .priority) 0
+    flag-exact (r .masked) and
+    not-exact (r .pending) and not-exact (r .delivered) and eqb-exact (r .priority) 0 and eqb-exact (r .dropped) 0
     in (
-      λ e. let ((((a, b), c), d), p) = x .0 e in
-          λ t. record { configured = a t; masked = b t; pending = c t; delivered = d t; priority = p t },
+      λ e. let (((((a, b), c), d), p), l) = x .0 e in
+          λ t. record { configured = a t; masked = b t; pending = c t; delivered = d t; priority = p t; dropped = l t },
       λ p. ap isResetSource p,
     )
 

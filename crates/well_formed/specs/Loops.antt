@@ -18,9 +18,9 @@ use Rattle.well_formed.specs.declared.Surveyed.{Surveyed}
 use Rattle.well_formed.specs.Survey.{surveyWith, inconsistentSurvey, coveredPriority, boxedPriority, greatestCovered, lowestBoxed}
 use Rattle.well_formed.specs.Survey.{greatestWaiting}
 
--- A source without a request.
+-- A source without a request that has dropped no trigger.
 unfoldable pub isIdle : Source → Bool
-isIdle r = not (r .pending) && not (r .delivered) && eqb (r .priority) 0
+isIdle r = not (r .pending) && not (r .delivered) && eqb (r .priority) 0 && eqb (r .dropped) 0
 
 -- A core in range whose box, if it is filled, names one of n sources.
 unfoldable pub coreFits : ℕ → ℕ → Core → Bool

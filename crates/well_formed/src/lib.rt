@@ -80,7 +80,7 @@ pub fn is_reset_core(c: Core) -> bool
     is_empty_box(c.message)
 }
 
-// Whether a source has no request: nothing pending, delivered off, the request's priority 0.
+// Whether a source has no request, nothing pending, delivered off, the request's priority 0, and has dropped no trigger.
 fn is_idle(s: Source) -> bool
     ensures { λ r. ⌜ r ≡ isIdle s ⌝ }
 {
@@ -90,10 +90,13 @@ fn is_idle(s: Source) -> bool
     if s.delivered {
         return false;
     }
-    s.priority == 0
+    if s.priority != 0 {
+        return false;
+    }
+    s.dropped == 0
 }
 
-// Whether a source is fresh: masked, of configured priority 1, with no request. So nested, the compiler merges the tests.
+// Whether a source is fresh: masked, of configured priority 1, with no request and nothing dropped. So nested, the compiler merges the tests.
 pub fn is_reset_source(s: Source) -> bool
     ensures { λ r. ⌜ r ≡ isResetSource s ⌝ }
 {

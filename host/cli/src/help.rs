@@ -34,7 +34,9 @@ psic run
     trigger 4: accepted, 1 cycle, [4,0]  4: box 0
         After the colon: 'accepted', or the number for no with its words; the claimed id, if there is one; the cycles of
         settling; each core's current priority, core 0 first; and who owns each pending request: the source while it
-        waits, the box of a core, or the software that claimed it.
+        waits, the box of a core, or the software that claimed it. After the last command the dropped triggers, if there
+        are any: how many of each source were refused by 6, since it was pending. A count is held at 65535, and is shown
+        as 'at least 65535' then.
 
 psic replay
     makes a fresh controller as 'psic run' does, and takes commands from a recording of the bus monitor, Value Change
@@ -42,7 +44,8 @@ psic replay
 
     #12 trigger 4: accepted, 1 cycle, [4,0]  4: box 0
         The time of the stamp at whose end the command was taken, then the line that 'psic run' prints. After the last
-        one: how many commands there were, how many were refused and by which number, the cycles in all and at most.
+        one: how many commands there were, how many were refused and by which number, the cycles in all and at most, and
+        the dropped triggers, or that there are none.
         A fault goes to standard error: its line, column and word, and what was expected there.
 
     With --write the replayed run, refused commands too, is also written to a file as 'psic record' does.
@@ -64,7 +67,7 @@ psic routines
     enter on core 0: accepted, id 4, 0 cycles, [4,0]  active [4,-]  4: software
         As 'psic run' prints it, and behind the current priorities the id that is active on each core, '-' if the core
         is idle. After the last call the handovers, if there are any: how often a request last held by one core was
-        next claimed by another, up to 65535.
+        next claimed by another, up to 65535. Then the dropped triggers, as 'psic run' prints them.
 
 psic refusals
     prints the numbers for no in words, of commands and of recordings.

@@ -1,5 +1,6 @@
 //! The program `psic`: the proved controller at the command line. It decides nothing itself; the package `psic` does.
 
+mod dropped;
 mod failure;
 mod help;
 mod line;

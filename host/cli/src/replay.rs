@@ -7,6 +7,7 @@ use std::io::{self, BufWriter, IsTerminal, Read, Write};
 
 use psic::{Answer, Command, Controller, Reading, Refusal};
 
+use crate::dropped;
 use crate::failure::Failure;
 use crate::line;
 use crate::options::{needs, write_to, Options, SIZES, WRITE};
@@ -41,7 +42,7 @@ fn recording(reading: &Reading) -> Result<Vec<u8>, Failure> {
     psic::write(&run).map_err(|refusal| Failure::input(refusal.to_string()))
 }
 
-/// A line for each command, then the summary.
+/// A line for each command, then the summary, with what the controller has counted.
 fn listing(mut controller: Controller, reading: &Reading, progress: &Progress) -> io::Result<()> {
     let mut out = BufWriter::new(io::stdout().lock());
     let mut summary = Summary::default();
@@ -56,6 +57,7 @@ fn listing(mut controller: Controller, reading: &Reading, progress: &Progress) -
     }
     progress.end();
     write!(out, "{summary}")?;
+    dropped::print_or_none(&controller, &mut out)?;
     out.flush()
 }
 

@@ -5,12 +5,14 @@ use std::io::{self, Write};
 
 use psic::{Handovers, Refusal, RoutineCall, Routines};
 
+use crate::dropped;
 use crate::failure::Failure;
 use crate::line;
 use crate::lines;
 use crate::options::{Input, Options, SIZES};
 
-/// Runs the calls of a file or of standard input, and prints the handovers in them. A bad line ends the run: those before it are printed.
+/// Runs the calls of a file or of standard input, and prints the handovers in them and which triggers were dropped. A bad line ends the
+/// run: those before it are printed.
 pub fn command(words: &[OsString]) -> Result<(), Failure> {
     let mut options = Options::of("routines", &SIZES, words)?;
     let input = options.input.take().unwrap_or(Input::Standard);
@@ -23,6 +25,8 @@ pub fn command(words: &[OsString]) -> Result<(), Failure> {
         line::print(call, answer, &routines, out)
     });
     table(&handovers, &mut out)?;
+    dropped::print(routines.controller(), &mut out)?;
+    out.flush()?;
     taken
 }
 
@@ -44,5 +48,5 @@ fn table(handovers: &Handovers, out: &mut impl Write) -> io::Result<()> {
         }
         writeln!(out, "    from core {from} to core {to}: {count}")?;
     }
-    out.flush()
+    Ok(())
 }

@@ -4,6 +4,7 @@ use std::fs::OpenOptions;
 use std::io::Write;
 use std::path::PathBuf;
 use std::process::{Command, Output, Stdio};
+use std::thread;
 
 const EXAMPLE: &str = "../examples/two_beams.txt";
 const RECORDING: &str = "../examples/two_beams.vcd";
@@ -24,10 +25,11 @@ fn run(words: &[&str], input: &[u8]) -> Output {
         .spawn()
         .expect("the program starts");
     let mut stdin = child.stdin.take().expect("a pipe");
-    // A program that ends before it has read all is told by what it answers.
-    let _ = stdin.write_all(input);
-    drop(stdin);
-    child.wait_with_output().expect("the program ends")
+    // At once with reading what it prints: either pipe may be full. A program that ends before it has read all is told by what it answers.
+    thread::scope(|scope| {
+        scope.spawn(move || stdin.write_all(input));
+        child.wait_with_output().expect("the program ends")
+    })
 }
 
 fn text(bytes: &[u8]) -> &str {
@@ -321,6 +323,8 @@ commands: 5, accepted: 2, refused: 3
     1 refused by 6 (the source is pending already)
     1 refused by 7 (the box is empty)
 cycles: 1, at most 1 a command
+dropped triggers:
+    source 4: 1
 ";
     let input = [DEFINED, stamps].concat();
     assert_eq!(
@@ -329,7 +333,7 @@ cycles: 1, at most 1 a command
     );
 }
 
-const NOTHING: &str = "commands: 0, accepted: 0, refused: 0\ncycles: 0, at most 0 a command\n";
+const NOTHING: &str = "commands: 0, accepted: 0, refused: 0\ncycles: 0, at most 0 a command\ndropped triggers: none\n";
 
 #[test]
 fn a_recording_without_a_time_has_no_command() {
@@ -350,6 +354,7 @@ fn a_fault_ends_the_replay_and_is_told() {
     let printed = "#1 unmask 4: accepted, 0 cycles, [0,0,0,0]
 commands: 1, accepted: 1, refused: 0
 cycles: 0, at most 0 a command
+dropped triggers: none
 ";
     let length = DEFINED.len();
     for (rest, column, expected, number) in [
@@ -443,10 +448,71 @@ fn a_long_recording_is_replayed_in_silence() {
     assert!(input.len() > 1_000_000);
     let (status, out, err) = replayed(input.as_bytes());
     assert_eq!((status, err.as_str()), (0, ""));
-    assert_eq!(out.lines().count(), 65_535 + 2);
+    assert_eq!(out.lines().count(), 65_535 + 3);
     assert!(out.ends_with(
-        "\ncommands: 65535, accepted: 65535, refused: 0\ncycles: 0, at most 0 a command\n"
+        "\ncommands: 65535, accepted: 65535, refused: 0\ncycles: 0, at most 0 a command\ndropped triggers: none\n"
     ));
+}
+
+/// Triggers of so many sources in turn, each so many times; what isn't the first of a source is dropped.
+fn triggers(sources: u16, times: usize) -> String {
+    let each: String = (1..=sources).map(|id| format!("trigger {id}\n")).collect();
+    each.repeat(times)
+}
+
+/// A recorded run: source 1 drops two triggers, source 3 one, and source 2, whose requests end, none.
+#[test]
+fn a_replay_tells_which_sources_dropped_how_many_triggers() {
+    let run = "unmask 2\ntrigger 1\ntrigger 1\ntrigger 2\nclaim on core 0\ncomplete 2\ntrigger 3\ntrigger 2\ntrigger 3\ntrigger 1\n\
+               trigger 9\n";
+    let recorded = answered(&["record"], run.as_bytes()).1;
+    let (status, out, err) = replayed(recorded.as_bytes());
+    assert_eq!((status, err.as_str()), (0, ""));
+    let summary = "\
+commands: 11, accepted: 7, refused: 4
+    1 refused by 4 (there is no such source)
+    3 refused by 6 (the source is pending already)
+cycles: 2, at most 1 a command
+dropped triggers:
+    source 1: 2
+    source 3: 1
+";
+    assert!(out.ends_with(summary), "{out}");
+}
+
+/// A recording has at most 65,535 commands, so that a replay's counts are never held.
+#[test]
+fn a_replay_counts_every_dropped_trigger() {
+    let recorded = answered(&["record"], triggers(1, 65_535).as_bytes()).1;
+    let (status, out, err) = replayed(recorded.as_bytes());
+    assert_eq!((status, err.as_str()), (0, ""));
+    let summary =
+        "    65534 refused by 6 (the source is pending already)\ncycles: 0, at most 0 a command\n";
+    let dropped = "dropped triggers:\n    source 1: 65534\n";
+    assert!(out.ends_with(&[summary, dropped].concat()));
+}
+
+/// After the last line, only where there are some, and also where a bad line ends the run. A count that is held is told as one.
+#[test]
+fn a_run_tells_its_dropped_triggers() {
+    for command in ["run", "routines"] {
+        let words = [command, "--sources", "4", "--cores", "4"];
+        let told = |input: &str| {
+            let (_, out, _) = answered(&words, input.as_bytes());
+            let at = out.find("dropped triggers:");
+            at.map_or(String::new(), |at| out[at..].to_string())
+        };
+        assert_eq!(told(&triggers(4, 1)), "");
+        let each = "dropped triggers:\n    source 1: 1\n    source 2: 1\n";
+        assert_eq!(told(&triggers(2, 2)), each);
+        assert_eq!(told(&[&triggers(2, 2), "trigger"].concat()), each);
+        let exact = "dropped triggers:\n    source 1: 65534\n";
+        assert_eq!(told(&triggers(1, 65_535)), exact);
+        for times in [65_536, 65_537] {
+            let held = "dropped triggers:\n    source 1: at least 65535\n";
+            assert_eq!(told(&triggers(1, times)), held, "{times}");
+        }
+    }
 }
 
 /// A file for a test's own use, of this name.
@@ -663,6 +729,8 @@ exit on core 1: refused by 8 (the core is idle), 0 cycles, [0,0]  active [-,-]
 trigger 4: refused by 4 (there is no such source), 0 cycles, [0,0]  active [-,-]
 trigger 1: accepted, 0 cycles, [0,0]  active [-,-]  1: source
 trigger 1: refused by 6 (the source is pending already), 0 cycles, [0,0]  active [-,-]  1: source
+dropped triggers:
+    source 1: 1
 ";
     assert_eq!(
         answered(&ROUTINES, input.as_bytes()),
@@ -756,8 +824,13 @@ fn the_words_are_those_of_the_table_of_runs() {
             input.as_bytes(),
         );
         assert_eq!(status, 0);
-        let printed: Vec<&str> = out.lines().skip(64).collect();
+        let mut printed: Vec<&str> = out.lines().skip(64).collect();
+        let after = printed.split_off(rows.len());
         assert_eq!(printed, rows);
+        let dropped = |row: &&&str| row.contains(": refused by 6 ");
+        let counts = after.iter().filter_map(|line| line.rsplit(' ').next());
+        let told: usize = counts.filter_map(|count| count.parse::<usize>().ok()).sum();
+        assert_eq!(rows.iter().filter(dropped).count(), told, "{after:?}");
         compared += rows.len();
     }
     assert!(compared > 30, "{compared} rows compared");

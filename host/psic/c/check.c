@@ -1,6 +1,6 @@
 /* The header against the library, in C and in C++: T2 to T8 of document 01's table by the typed commands, the run of document 02's
- * request 2/14, every accessor, a list, the calls on lent records, document 01's recording read, replayed and written, a handover
- * between interrupt routines, refusals of each kind that a host can meet, and the version. */
+ * request 2/14, every accessor, a list, dropped triggers counted, the calls on lent records, document 01's recording read, replayed and
+ * written, a handover between interrupt routines, refusals of each kind that a host can meet, and the version. */
 #include <errno.h>
 #include <stdio.h>
 #include <string.h>
@@ -85,6 +85,7 @@ static void refusals(void) {
     expect(memcmp(&state, &before, sizeof state) == 0, "a refusal leaves the state as it was");
     psic_trigger(&state, psic_source_id_of(4));
     expect(answers(psic_trigger(&state, psic_source_id_of(4)), PSIC_PENDING, 0, 0), "T12: 6");
+    expect(psic_dropped(&state, psic_source_id_of(4)) == 1, "T12: it is counted");
     state.bytes[0] = 0; /* no sources */
     expect(answers(psic_trigger(&state, psic_source_id_of(4)), PSIC_UNSOUND, 0, 0), "1");
     expect(strcmp(psic_in_words(PSIC_EMPTY_BOX), "the box is empty") == 0, "7 in words");
@@ -98,6 +99,7 @@ static void accessors(void) {
     expect(psic_sources(&state) == 32 && psic_cores(&state) == 2 && psic_top_priority(&state) == 127, "sizes and top priority");
     psic_source source = psic_source_record(&state, psic_source_id_of(4));
     expect(source.configured == 4 && !source.masked && source.pending && source.delivered && source.priority == 4, "record of 4");
+    expect(source.dropped == 0 && psic_dropped(&state, psic_source_id_of(4)) == 0, "nothing is dropped");
     psic_core core = psic_core_record(&state, psic_core_id_of(0));
     psic_message_box box = psic_box(&state, psic_core_id_of(0));
     expect(core.configured == 0 && core.message.filled && box.source.number == 4 && box.priority == 4 && !box.dirty, "core 0's box");
@@ -106,6 +108,7 @@ static void accessors(void) {
     expect(psic_current_priority(&state, psic_core_id_of(2)) == 0, "no core 2");
     memset(&state, 0xff, sizeof state);
     expect(psic_source_record(&state, psic_source_id_of(65535)).configured == 0, "any bytes can be read: sources");
+    expect(psic_dropped(&state, psic_source_id_of(128)) == 65535 && psic_dropped(&state, psic_source_id_of(129)) == 0, "and counts");
     expect(psic_current_priority(&state, psic_core_id_of(65535)) == 0, "any bytes can be read: cores");
 }
 
@@ -121,8 +124,45 @@ static void lists(void) {
     expect(psic_run(state.bytes, sizeof state.bytes, list, sizeof list, got, 14) == PSIC_NO_COUNT, "room for two answers only");
 }
 
+/* Whether the states differ in the count of this source alone, and it is this one. */
+static bool counts(const psic_state *state, psic_state before, uint16_t id, uint16_t dropped) {
+    size_t at = 4 + 9 * ((size_t)id - 1) + 7;
+    before.bytes[at] = (uint8_t)(dropped & 0xff);
+    before.bytes[at + 1] = (uint8_t)(dropped >> 8);
+    return memcmp(state, &before, sizeof before) == 0 && psic_dropped(state, psic_source_id_of(id)) == dropped;
+}
+
+/* A list of 65,535 triggers of source 4, of which the first is accepted; then one more, and two more. */
+static void dropped_triggers(void) {
+    static uint8_t list[65535 * PSIC_COMMAND_SIZE], got[65535 * PSIC_ANSWER_SIZE];
+    const psic_listed trigger = {PSIC_TRIGGER, 4, 0};
+    psic_state state, before;
+    start(&state);
+    psic_trigger(&state, psic_source_id_of(3));
+    psic_claim(&state, psic_core_id_of(0));
+    before = state;
+    expect(answers(psic_trigger(&state, psic_source_id_of(3)), PSIC_PENDING, 0, 0) && counts(&state, before, 3, 1), "of a claimed request");
+    expect(answers(psic_trigger(&state, psic_source_id_of(33)), PSIC_BAD_SOURCE, 0, 0) && counts(&state, before, 3, 1), "4 counts nothing");
+    before = state;
+    psic_trigger(&before, psic_source_id_of(4));
+    for (size_t i = 0; i < 65535; i++) {
+        psic_set_command_at(list, i, trigger);
+    }
+    expect(psic_run(state.bytes, sizeof state.bytes, list, sizeof list, got, sizeof got) == 65535, "65,535 triggers");
+    expect(answers(psic_answer_at(got, 0), PSIC_OK, 0, 1) && answers(psic_answer_at(got, 65534), PSIC_PENDING, 0, 0), "one is accepted");
+    expect(counts(&state, before, 4, 65534), "65,534 are counted");
+    expect(answers(psic_trigger(&state, psic_source_id_of(4)), PSIC_PENDING, 0, 0) && counts(&state, before, 4, 65535), "and one more");
+    expect(answers(psic_trigger(&state, psic_source_id_of(4)), PSIC_PENDING, 0, 0) && counts(&state, before, 4, 65535), "65,535 is held");
+    expect(PSIC_MAX_DROPPED == 65535, "at the largest count");
+    before = state;
+    state.bytes[4 + 9 * 32 + 7] = 1; /* the count of source 33, which there isn't */
+    expect(answers(psic_trigger(&state, psic_source_id_of(3)), PSIC_UNSOUND, 0, 0), "a count past n: 1");
+    state.bytes[4 + 9 * 32 + 7] = 0;
+    expect(memcmp(&state, &before, sizeof state) == 0, "and it counts nothing");
+}
+
 static void lent_records(void) {
-    psic_source sources[129] = {{1, true, true, false, 9}, {1, false, true, false, 5}, {1, false, true, false, 5}};
+    psic_source sources[129] = {{1, true, true, false, 9, 0}, {1, false, true, false, 5, 0}, {1, false, true, false, 5, 65535}};
     psic_found found = psic_highest_in(sources, 3);
     expect(found.number == PSIC_OK && found.position == 2, "the first highest candidate of a lent list");
     expect(psic_highest_in(sources, 0).position == 0, "an empty list has none");
@@ -210,7 +250,7 @@ static void replays(void) {
     memset(&state, 0x99, sizeof state);
     memset(got, 0x99, sizeof got);
     expect(reports(psic_replay(33, 33, recording, LENGTH, state.bytes, sizeof state, got, sizeof got), PSIC_BAD_SIZE, 0, 0), "2 at 0");
-    expect(reports(psic_replay(33, 33, recording, LENGTH, state.bytes, 1155, got, sizeof got), PSIC_UNREADABLE, 0, 0), "255 before 2");
+    expect(reports(psic_replay(33, 33, recording, LENGTH, state.bytes, 1411, got, sizeof got), PSIC_UNREADABLE, 0, 0), "255 before 2");
     expect(reports(psic_replay(32, 2, recording, LENGTH, state.bytes, sizeof state, got, short_room), PSIC_UNREADABLE, 0, 0), "no room");
     expect(untouched(&state, sizeof state) && untouched(got, sizeof got), "nothing is written");
     expect(reports(psic_replay(32, 2, recording, LENGTH, state.bytes, sizeof state, got, sizeof got), PSIC_OK, 1, LENGTH), "a replay");
@@ -320,6 +360,13 @@ static void refused_routines(void) {
     expect(answers(psic_routines_exit(&routines, psic_core_id_of(0)), PSIC_NOT_CLAIMED, 0, 0), "exit on an idle core: 8");
     expect(answers(psic_routines_call(&routines, &handovers, PSIC_CLAIM, 0, 0), PSIC_UNREADABLE, 0, 0), "claim is no call: 255");
     expect(memcmp(&routines, &before, sizeof routines) == 0, "a refusal leaves the simulation as it was");
+    psic_routines_mask(&routines, psic_source_id_of(1));
+    psic_routines_trigger(&routines, psic_source_id_of(1));
+    before = routines;
+    expect(answers(psic_routines_trigger(&routines, psic_source_id_of(1)), PSIC_PENDING, 0, 0), "trigger of a pending source: 6");
+    expect(counts(&routines.state, before.state, 1, 1), "it is counted");
+    routines.state = before.state;
+    expect(memcmp(&routines, &before, sizeof routines) == 0, "and nothing else changes");
     expect(active(&routines, 0, 0) && last_held(&routines, 1, false, 0), "idle cores, nothing held");
     routines.active[2] = 1;
     expect(psic_routines_active(&routines, psic_core_id_of(2)).number == 0, "no core 2");
@@ -358,6 +405,7 @@ int main(void) {
     refusals();
     accessors();
     lists();
+    dropped_triggers();
     lent_records();
     recordings();
     no_room();

@@ -23,6 +23,9 @@
  *   - It ends and answers, whatever the bytes and numbers that it is given.
  *   - A number other than PSIC_OK leaves every buffer and record as it was, byte for byte, with id 0 and 0 cycles.
  *     That is also so of psic_init and psic_make: the state then has no content of theirs, so look at the number.
+ *     One refusal alters a state: a trigger that PSIC_PENDING refuses is counted in its source's record, and all else stays as it was.
+ *     That goes for every call that triggers: psic_execute, psic_trigger, psic_run, psic_replay, psic_simulate, psic_routines_call and
+ *     psic_routines_trigger. A trigger refused by another number counts nothing, and no other call changes a count.
  *     The numbers 11 to 14 and 19 of a recording that is read are no such refusals: what was taken before the fault stands, and is
  *     written.
  *   - It allocates nothing, waits for nothing, keeps nothing between calls and doesn't touch errno. It may be called from a signal
@@ -38,21 +41,24 @@
 #include <stdint.h>
 
 /* The version of this header: ten thousand times the major number, a hundred times the minor one, and the patch. */
-#define PSIC_VERSION 30100u
-#define PSIC_VERSION_TEXT "3.1.0"
+#define PSIC_VERSION 40000u
+#define PSIC_VERSION_TEXT "4.0.0"
 
 /* The largest sizes: "n sources, 1 to 128", "m cores, 1 to 32". */
 #define PSIC_MAX_SOURCES 128u
 #define PSIC_MAX_CORES 32u
 
 /* Bytes of a state, of a command and of an answer; docs/ENCODING.md has their layout. */
-#define PSIC_STATE_SIZE 1156u
+#define PSIC_STATE_SIZE 1412u
 #define PSIC_COMMAND_SIZE 5u
 #define PSIC_ANSWER_SIZE 5u
 
 /* Bytes of a simulation of the interrupt routines, and cells of its table of handovers. */
-#define PSIC_ROUTINES_SIZE 1476u
+#define PSIC_ROUTINES_SIZE 1732u
 #define PSIC_TABLE_CELLS 1024u
+
+/* What a source's count of dropped triggers is held at. */
+#define PSIC_MAX_DROPPED 65535u
 
 /* The most commands that are taken from one recording, and that are written into one. */
 #define PSIC_MAX_COMMANDS 65535u
@@ -104,7 +110,7 @@ typedef enum {
     PSIC_BAD_CORE = 3,     /* "core is m or above" */
     PSIC_BAD_SOURCE = 4,   /* "id is 0 or above n" */
     PSIC_BAD_PRIORITY = 5, /* "source priority 0 or above top; core priority above top" */
-    PSIC_PENDING = 6,      /* "trigger of a pending source" */
+    PSIC_PENDING = 6,      /* "trigger of a pending source"; it is counted in the source's record */
     PSIC_EMPTY_BOX = 7,    /* "claim on an empty box, in a state or in a lent record"; "entry on an empty box" */
     PSIC_NOT_CLAIMED = 8,  /* "redeliver or complete of a request that isn't claimed"; "exit on an idle core" */
     PSIC_PRIORITY_IN_USE = 9, /* document 02's: "set source priority on a pending source", also to the priority that it has */
@@ -178,6 +184,7 @@ typedef struct {
     bool pending;
     bool delivered;
     uint16_t priority; /* the pending request's own priority, copied from the configured one at trigger; 0 if nothing is pending */
+    uint16_t dropped;  /* the triggers refused by PSIC_PENDING, held at PSIC_MAX_DROPPED; no search looks at it */
 } psic_source;
 
 /* A core's box. An empty one has id 0, priority 0 and isn't dirty. */
@@ -246,7 +253,9 @@ typedef struct {
 
 PSIC_ASSERT_SIZE(psic_source_id, 2);
 PSIC_ASSERT_SIZE(psic_core_id, 2);
-PSIC_ASSERT_SIZE(psic_source, 8);
+PSIC_ASSERT_SIZE(psic_source, 10);
+PSIC_ASSERT_OFFSET(psic_source, priority, 6);
+PSIC_ASSERT_OFFSET(psic_source, dropped, 8);
 PSIC_ASSERT_SIZE(psic_message_box, 6);
 PSIC_ASSERT_SIZE(psic_core, 8);
 PSIC_ASSERT_SIZE(psic_found, 4);
@@ -255,8 +264,8 @@ PSIC_ASSERT_SIZE(psic_claimed, 4);
 PSIC_ASSERT_SIZE(psic_report, 16);
 PSIC_ASSERT_SIZE(psic_state, PSIC_STATE_SIZE);
 PSIC_ASSERT_SIZE(psic_routines, PSIC_ROUTINES_SIZE);
-PSIC_ASSERT_OFFSET(psic_routines, active, 1156);
-PSIC_ASSERT_OFFSET(psic_routines, holder, 1220);
+PSIC_ASSERT_OFFSET(psic_routines, active, 1412);
+PSIC_ASSERT_OFFSET(psic_routines, holder, 1476);
 PSIC_ASSERT_SIZE(psic_handovers, 2 * PSIC_TABLE_CELLS);
 
 /* ---- the library's calls: proved, on any bytes ---- */
@@ -276,7 +285,7 @@ uint64_t psic_execute(uint8_t *state, size_t state_len, uint16_t number, uint16_
  * than the list. */
 uint64_t psic_run(uint8_t *state, size_t state_len, const uint8_t *list, size_t list_len, uint8_t *answers, size_t answers_len);
 
-/* The first highest candidate of a lent list of at most 128 records, whatever they hold; a longer one is refused by 2. */
+/* The first highest candidate of a lent list of at most 128 records, whatever they hold and have counted; a longer one is refused by 2. */
 psic_found psic_highest_in(const psic_source *list, size_t list_len);
 
 /* How many ranges of the comparator tree over such a list that search looks into: those with a candidate in them. The tree halves the
@@ -398,7 +407,7 @@ static inline psic_written psic_write_run(const uint8_t *list, size_t commands, 
     return written;
 }
 
-/* A fresh controller: "every source masked, configured priority 1, nothing pending; every core at 0, boxes empty". */
+/* A fresh controller: "every source masked, configured priority 1, nothing pending; every core at 0, boxes empty"; nothing dropped. */
 static inline psic_answer psic_init(psic_state *state, uint16_t sources, uint16_t cores) {
     return psic_unpacked(psic_make(sources, cores, state->bytes, sizeof state->bytes));
 }
@@ -467,23 +476,29 @@ static inline uint16_t psic_top_priority(const psic_state *state) {
 
 /* The record of a source. An id that is 0 or above n has a record of zeros, which no source of a sound state has. */
 static inline psic_source psic_source_record(const psic_state *state, psic_source_id source) {
-    psic_source record = {0, false, false, false, 0};
+    psic_source record = {0, false, false, false, 0, 0};
     if (source.number != 0 && source.number <= psic_sources(state) && source.number <= PSIC_MAX_SOURCES) {
-        size_t at = 4 + 7 * ((size_t)source.number - 1);
+        size_t at = 4 + 9 * ((size_t)source.number - 1);
         record.configured = psic_word_at(state, at);
         record.masked = psic_flag_at(state, at + 2);
         record.pending = psic_flag_at(state, at + 3);
         record.delivered = psic_flag_at(state, at + 4);
         record.priority = psic_word_at(state, at + 5);
+        record.dropped = psic_word_at(state, at + 7);
     }
     return record;
+}
+
+/* How many triggers of a source were refused by PSIC_PENDING; PSIC_MAX_DROPPED stands for so many or more. 0 if there is no such source. */
+static inline uint16_t psic_dropped(const psic_state *state, psic_source_id source) {
+    return psic_source_record(state, source).dropped;
 }
 
 /* The record of a core. A core that is m or above has that of a fresh one. */
 static inline psic_core psic_core_record(const psic_state *state, psic_core_id core) {
     psic_core record = {0, {false, false, {0}, 0}};
     if (core.number < psic_cores(state) && core.number < PSIC_MAX_CORES) {
-        size_t at = 900 + 8 * (size_t)core.number;
+        size_t at = 1156 + 8 * (size_t)core.number;
         record.configured = psic_word_at(state, at);
         record.message.filled = psic_flag_at(state, at + 2);
         record.message.dirty = psic_flag_at(state, at + 3);

@@ -60,7 +60,8 @@ impl fmt::Display for Answer {
 }
 
 /// Document 01's numbers for no, each with its row: "given exactly when, no earlier check refusing". They are checked in the order 1,
-/// then 3 or 4, then 5, then 6, 7, 8 or 9. Document 02's 15 refuses to write a run. A refused call leaves everything as it was.
+/// then 3 or 4, then 5, then 6, 7, 8 or 9. Document 02's 15 refuses to write a run. A refused call leaves everything as it was, but for 6:
+/// the trigger is counted in the source's record.
 #[repr(u8)]
 #[non_exhaustive]
 #[derive(Clone, Copy, Debug, PartialEq, Eq, Hash)]
@@ -76,7 +77,7 @@ pub enum Refusal {
     BadSource = 4,
     /// 5: "source priority 0 or above top; core priority above top".
     BadPriority = 5,
-    /// 6: "trigger of a pending source".
+    /// 6: "trigger of a pending source". It is counted: [`crate::Controller::dropped`].
     Pending = 6,
     /// 7: "claim on an empty box, in a state or in a lent record"; "entry on an empty box".
     EmptyBox = 7,

@@ -2,7 +2,7 @@
 //! own.
 //!
 //! Any bytes may be handed in. Bytes that encode no state or no run and buffers that don't fit are refused by [`Refusal::Unreadable`], and
-//! every refusal leaves all buffers as they were.
+//! every refusal leaves all buffers as they were, but for [`Refusal::Pending`] of a trigger, which is counted in the source's record.
 //!
 //! ```
 //! use psic::{bytes, Answer, Command, SourceId, ANSWER_SIZE, STATE_SIZE};
@@ -23,7 +23,7 @@ use crate::command::Command;
 use crate::raw;
 
 /// The bytes of a state.
-pub const STATE_SIZE: usize = 1156;
+pub const STATE_SIZE: usize = 1412;
 
 /// Makes a fresh controller of n sources and m cores in a buffer of [`STATE_SIZE`] bytes.
 pub fn make(n: u16, m: u16, state: &mut [u8]) -> Result<(), Refusal> {

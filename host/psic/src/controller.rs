@@ -9,11 +9,12 @@ use crate::records::{Core, CoreId, MessageBox, Owner, Source, SourceId, MAX_CORE
 
 /// Where the records begin in a state's bytes, and how long each is (docs/ENCODING.md).
 const SOURCES_AT: usize = 4;
-const SOURCE_SIZE: usize = 7;
-const CORES_AT: usize = 900;
+const SOURCE_SIZE: usize = 9;
+const CORES_AT: usize = 1156;
 const CORE_SIZE: usize = 8;
 
-/// A controller of n sources and m cores. It is made, changed by commands, and read; a refused command changes nothing.
+/// A controller of n sources and m cores. It is made, changed by commands, and read; a refused command changes nothing, but for a trigger
+/// of a pending source, which that source counts ([`Controller::dropped`]).
 ///
 /// ```
 /// use psic::{Controller, CoreId, Owner, Refusal, SourceId};
@@ -35,8 +36,8 @@ pub struct Controller {
 }
 
 impl Controller {
-    /// A fresh controller: "every source masked, configured priority 1, nothing pending; every core at 0, boxes empty". Refused by
-    /// [`Refusal::BadSize`] unless n is 1 to 128 and m is 1 to 32.
+    /// A fresh controller: "every source masked, configured priority 1, nothing pending; every core at 0, boxes empty"; nothing dropped.
+    /// Refused by [`Refusal::BadSize`] unless n is 1 to 128 and m is 1 to 32.
     pub fn new(n: u16, m: u16) -> Result<Controller, Refusal> {
         let mut bytes = [0; STATE_SIZE];
         bytes::make(n, m, &mut bytes)?;
@@ -109,7 +110,16 @@ impl Controller {
         self.execute(Command::SetCorePriority(core, priority))
     }
 
-    /// Opens a request of the source, at its configured priority, also when it is masked.
+    /// Opens a request of the source, at its configured priority, also when it is masked. [`Refusal::Pending`] if it has one: then the
+    /// trigger is dropped, and counted.
+    ///
+    /// ```
+    /// use psic::{Controller, Refusal, SourceId};
+    /// let mut controller = Controller::new(32, 2).unwrap();
+    /// controller.trigger(SourceId(4)).unwrap();
+    /// assert_eq!(controller.trigger(SourceId(4)), Err(Refusal::Pending));
+    /// assert_eq!(controller.dropped(SourceId(4)), Some(1));
+    /// ```
     pub fn trigger(&mut self, source: SourceId) -> Result<Answer, Refusal> {
         self.execute(Command::Trigger(source))
     }
@@ -161,6 +171,13 @@ impl Controller {
     pub fn source(&self, source: SourceId) -> Option<Source> {
         let position = usize::from(source.0).checked_sub(1)?;
         (position < self.held_sources()).then(|| self.source_at(position))
+    }
+
+    /// How many triggers of a source were refused because it was pending; [`MAX_DROPPED`](crate::MAX_DROPPED) stands for so many or more.
+    /// None if the id is 0 or above n. From a fresh controller on it is the number of triggers of this source that were answered
+    /// [`Refusal::Pending`].
+    pub fn dropped(&self, source: SourceId) -> Option<u16> {
+        self.source(source).map(|source| source.dropped)
     }
 
     /// The record of a core; none if it is m or above.
@@ -226,6 +243,7 @@ impl Controller {
             pending: self.flag(at + 3),
             delivered: self.flag(at + 4),
             priority: self.word(at + 5),
+            dropped: self.word(at + 7),
         }
     }
 

@@ -5,12 +5,12 @@ use crate::raw;
 use crate::records::{Core, Source, SourceId};
 
 /// The position of the first highest candidate (pending, not delivered, not masked) of a list of at most 128 records, whatever they
-/// hold. A longer list is refused by [`Refusal::BadSize`].
+/// hold and have counted. A longer list is refused by [`Refusal::BadSize`].
 ///
 /// ```
 /// use psic::{highest_in, Source};
-/// let waiting = |priority| Source { configured: 1, masked: false, pending: true, delivered: false, priority };
-/// assert_eq!(highest_in(&[waiting(3), waiting(5), waiting(5)]), Ok(Some(1)));
+/// let waiting = |priority, dropped| Source { configured: 1, masked: false, pending: true, delivered: false, priority, dropped };
+/// assert_eq!(highest_in(&[waiting(3, 0), waiting(5, 0), waiting(5, 7)]), Ok(Some(1)));
 /// assert_eq!(highest_in(&[]), Ok(None));
 /// ```
 pub fn highest_in(list: &[Source]) -> Result<Option<usize>, Refusal> {
@@ -27,7 +27,7 @@ pub fn highest_in(list: &[Source]) -> Result<Option<usize>, Refusal> {
 ///
 /// ```
 /// use psic::{ranges_in, Source};
-/// let waiting = Source { configured: 1, masked: false, pending: true, delivered: false, priority: 3 };
+/// let waiting = Source { configured: 1, masked: false, pending: true, delivered: false, priority: 3, dropped: 0 };
 /// let idle = Source { pending: false, priority: 0, ..waiting };
 /// assert_eq!(ranges_in(&[waiting, idle, idle]), Ok(3));
 /// assert_eq!(ranges_in(&[idle, idle, waiting]), Ok(2));

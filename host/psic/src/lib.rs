@@ -8,10 +8,10 @@
 //! - [`highest_in`], [`ranges_in`] and [`claim_in_place`] work on records that a host keeps in tables of its own.
 //! - [`bytes`] has the calls on a state as bytes in memory of the host's own, [`raw`] the library's calls with their numbers.
 //!
-//! Every call ends and answers, whatever it is given. A refused one leaves everything as it was. The library allocates nothing, keeps
-//! nothing between calls and takes less than 16 KB of stack; this package allocates where it returns a `Vec`. A controller may be sent
-//! to another thread, and different controllers may be used at once. "Document 01" is the paper of exact rules, "document 02" that of
-//! later requests; their words are quoted.
+//! Every call ends and answers, whatever it is given. A refused one leaves everything as it was, but for a trigger of a pending source,
+//! which that source counts. The library allocates nothing, keeps nothing between calls and takes less than 16 KB of stack; this package
+//! allocates where it returns a `Vec`. A controller may be sent to another thread, and different controllers may be used at once.
+//! "Document 01" is the paper of exact rules, "document 02" that of later requests; their words are quoted.
 //!
 //! What the library does is proved; this package is not, and is held against an independent model by the package `trials`.
 #![deny(unsafe_code)]
@@ -35,7 +35,9 @@ pub use command::{Command, ParseCommandError, COMMAND_SIZE};
 pub use controller::Controller;
 pub use lent::{claim_in_place, highest_in, ranges_in};
 pub use recording::{read, replay, write, Fault, FaultKind, Reading, Replay, Stamped};
-pub use records::{Core, CoreId, MessageBox, Owner, Source, SourceId, MAX_CORES, MAX_SOURCES};
+pub use records::{
+    Core, CoreId, MessageBox, Owner, Source, SourceId, MAX_CORES, MAX_DROPPED, MAX_SOURCES,
+};
 pub use routine_call::RoutineCall;
 pub use routines::{Handovers, Routines, ROUTINES_SIZE};
 

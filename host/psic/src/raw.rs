@@ -143,7 +143,8 @@ pub fn make(n: u16, m: u16, state: &mut [u8]) -> u64 {
     unsafe { psic_make(n, m, state.as_mut_ptr(), state.len()) }
 }
 
-/// One command by its number 0 to 7, with the id or core and the priority: number + 256 id + 2^24 cycles, or 255.
+/// One command by its number 0 to 7, with the id or core and the priority: number + 256 id + 2^24 cycles, or 255. A trigger that 6 refuses
+/// is counted in its source's record, here and in the lists below; no other refusal alters the state.
 pub fn execute(state: &mut [u8], number: u16, at: u16, priority: u16) -> u64 {
     // SAFETY: pointer and length are those of a slice that is lent for the call alone.
     unsafe { psic_execute(state.as_mut_ptr(), state.len(), number, at, priority) }
@@ -199,7 +200,7 @@ pub fn read(text: &[u8], commands: &mut [u8], times: &mut [u64]) -> Report {
 }
 
 /// The state after the commands of a recording, from a fresh controller of n sources and m cores, and an answer of 5 bytes for each in the
-/// front of a buffer. There must be room for as many answers as [`crate::recording::room`] says, and 1,156 bytes for the state, else 255.
+/// front of a buffer. There must be room for as many answers as [`crate::recording::room`] says, and 1,412 bytes for the state, else 255.
 pub fn replay(n: u16, m: u16, text: &[u8], state: &mut [u8], answers: &mut [u8]) -> Report {
     // SAFETY: pointers and lengths are those of three slices; two are lent for the call alone, so that none overlaps another.
     unsafe {
@@ -222,7 +223,7 @@ pub fn write(list: &[u8], text: &mut [u8]) -> u64 {
     unsafe { psic_write(list.as_ptr(), list.len(), text.as_mut_ptr(), text.len()) }
 }
 
-/// A fresh simulation of n sources and m cores, in 1,156 bytes for the state, 32 numbers for the active ids and 128 for the last holders:
+/// A fresh simulation of n sources and m cores, in 1,412 bytes for the state, 32 numbers for the active ids and 128 for the last holders:
 /// number + 256 id + 2^24 cycles, or 255.
 pub fn make_routines(
     n: u16,

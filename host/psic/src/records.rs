@@ -8,6 +8,9 @@ pub const MAX_SOURCES: usize = 128;
 /// The most cores that a controller has: "m cores, 1 to 32".
 pub const MAX_CORES: usize = 32;
 
+/// What a source's count of dropped triggers is held at.
+pub const MAX_DROPPED: u16 = 65_535;
+
 /// A source's id, 1 to n; 0 means none.
 #[repr(transparent)]
 #[derive(Clone, Copy, Debug, PartialEq, Eq, PartialOrd, Ord, Hash)]
@@ -50,6 +53,8 @@ pub struct Source {
     pub delivered: bool,
     /// The request's own priority, copied from the configured one at trigger. 0 if nothing is pending.
     pub priority: u16,
+    /// The triggers refused because something was pending ([`Refusal::Pending`](crate::Refusal::Pending)), held at [`MAX_DROPPED`].
+    pub dropped: u16,
 }
 
 /// A core's box. An empty one has id 0, priority 0 and isn't dirty.
@@ -78,7 +83,7 @@ pub struct Core {
 
 const _: () = assert!(size_of::<SourceId>() == 2 && size_of::<CoreId>() == 2);
 const _: () =
-    assert!(size_of::<Source>() == 8 && size_of::<MessageBox>() == 6 && size_of::<Core>() == 8);
+    assert!(size_of::<Source>() == 10 && size_of::<MessageBox>() == 6 && size_of::<Core>() == 8);
 
 impl Core {
     /// The current priority: "the box's if filled, else the configured one".

@@ -18,7 +18,8 @@ const HOLDER_AT: usize = ACTIVE_AT + 2 * MAX_CORES;
 pub const ROUTINES_SIZE: usize = HOLDER_AT + 2 * MAX_SOURCES;
 
 /// A simulation of the published entry and exit code (Listing 1 of source document 002) on all cores: a controller, the request that is
-/// active on each core, and the core that last held each request. It is made, changed by calls, and read; a refused call changes nothing.
+/// active on each core, and the core that last held each request. It is made, changed by calls, and read; a refused call changes nothing,
+/// but for a trigger of a pending source, which its controller counts.
 ///
 /// A request runs on core 0, is interrupted there, waits, and is claimed by core 1: a handover from 0 to 1.
 ///
@@ -175,7 +176,7 @@ impl Routines {
         self.command(RoutineCall::Unmask(source))
     }
 
-    /// As [`Controller::trigger`]. "A new trigger is a new request": nobody has held it.
+    /// As [`Controller::trigger`], a dropped one counted too. "A new trigger is a new request": nobody has held it.
     pub fn trigger(&mut self, source: SourceId) -> Result<Answer, Refusal> {
         self.command(RoutineCall::Trigger(source))
     }

@@ -1,6 +1,10 @@
 //! The C header and this package say the same: numbers, words, sizes.
 
-use psic::{recording, Command, CoreId, FaultKind, Handovers, Refusal, RoutineCall, SourceId};
+use std::mem::offset_of;
+
+use psic::{
+    recording, Command, CoreId, FaultKind, Handovers, Refusal, RoutineCall, Source, SourceId,
+};
 
 const HEADER: &str = include_str!("../include/psic.h");
 
@@ -76,6 +80,7 @@ fn the_header_has_the_same_sizes() {
         ("PSIC_ANSWER_SIZE", psic::ANSWER_SIZE),
         ("PSIC_MAX_SOURCES", psic::MAX_SOURCES),
         ("PSIC_MAX_CORES", psic::MAX_CORES),
+        ("PSIC_MAX_DROPPED", usize::from(psic::MAX_DROPPED)),
         ("PSIC_MAX_COMMANDS", recording::MAX_COMMANDS),
         ("PSIC_ROUTINES_SIZE", psic::ROUTINES_SIZE),
         ("PSIC_TABLE_CELLS", size_of::<Handovers>() / 2),
@@ -85,6 +90,26 @@ fn the_header_has_the_same_sizes() {
             "{name}"
         );
     }
+}
+
+/// Records in C's layout: the header asserts the offsets that the package's have.
+#[test]
+fn the_header_has_the_same_offsets() {
+    for (record, field, offset) in [
+        ("psic_source", "priority", offset_of!(Source, priority)),
+        ("psic_source", "dropped", offset_of!(Source, dropped)),
+        ("psic_routines", "active", psic::STATE_SIZE),
+        (
+            "psic_routines",
+            "holder",
+            psic::STATE_SIZE + 2 * psic::MAX_CORES,
+        ),
+    ] {
+        let assertion = format!("PSIC_ASSERT_OFFSET({record}, {field}, {offset});\n");
+        assert!(HEADER.contains(&assertion), "{assertion}");
+    }
+    let size = size_of::<Source>();
+    assert!(HEADER.contains(&format!("PSIC_ASSERT_SIZE(psic_source, {size});\n")));
 }
 
 /// The header's macro for the most bytes of a text has the package's two numbers.

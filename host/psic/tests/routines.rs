@@ -134,12 +134,30 @@ fn a_refused_call_changes_nothing() {
         ("mask 0", Refusal::BadSource),
         ("unmask 4", Refusal::BadSource),
         ("set source 1 to 8", Refusal::BadPriority),
-        ("trigger 1", Refusal::Pending),
         ("set source 1 to 1", Refusal::PriorityInUse),
     ] {
         let call: RoutineCall = line.parse().expect("a call");
         assert_eq!(routines.call(call, &mut handovers), Err(refusal), "{line}");
         assert_eq!((&routines, &handovers), (&before, &counted), "{line}");
+    }
+}
+
+/// A running request, and one in a box: the trigger is counted, and nothing else changes.
+#[test]
+fn a_dropped_trigger_is_counted() {
+    let (mut routines, mut handovers) = handed_over();
+    accepted(&mut routines, &mut handovers, "exit on core 0\ntrigger 2");
+    let (before, counted) = (routines.clone(), handovers.clone());
+    for (id, at) in [(1, 11), (2, 20)] {
+        let mut expected = before.clone();
+        for times in 1..=3 {
+            let call = RoutineCall::Trigger(SourceId(id));
+            let answer = routines.call(call, &mut handovers);
+            assert_eq!(answer, Err(Refusal::Pending));
+            expected = edited(&expected, &[(at, times)]);
+            assert_eq!((&routines, &handovers), (&expected, &counted));
+        }
+        routines = before.clone();
     }
 }
 
@@ -389,28 +407,28 @@ fn a_simulation_is_read_back_from_its_bytes() {
 const UNSOUND: [(&str, &[(usize, u8)]); 12] = [
     (
         "a claimed request that is active nowhere",
-        &[(900, 0), (1156, 0)],
+        &[(1156, 0), (1412, 0)],
     ),
     (
         "one that was held by none",
-        &[(900, 0), (1156, 0), (1224, 0)],
+        &[(1156, 0), (1412, 0), (1480, 0)],
     ),
     (
         "a claimed request that is active on two cores",
-        &[(908, 3), (1158, 3)],
+        &[(1164, 3), (1414, 3)],
     ),
-    ("a core at another priority than its request", &[(900, 2)]),
-    ("a claimed request last held by another core", &[(1224, 2)]),
-    ("a claimed request last held by none", &[(1224, 0)]),
+    ("a core at another priority than its request", &[(1156, 2)]),
+    ("a claimed request last held by another core", &[(1480, 2)]),
+    ("a claimed request last held by none", &[(1480, 0)]),
     (
         "an active request that isn't claimed",
-        &[(1158, 2), (1222, 2)],
+        &[(1414, 2), (1478, 2)],
     ),
-    ("an active id above n", &[(1158, 4), (1226, 2)]),
-    ("a core past m that isn't idle", &[(1160, 1)]),
-    ("an idle core above 0", &[(908, 1)]),
-    ("a last holder at m", &[(1220, 3)]),
-    ("a last holder at m of a source past n", &[(1474, 3)]),
+    ("an active id above n", &[(1414, 4), (1482, 2)]),
+    ("a core past m that isn't idle", &[(1416, 1)]),
+    ("an idle core above 0", &[(1164, 1)]),
+    ("a last holder at m", &[(1476, 3)]),
+    ("a last holder at m of a source past n", &[(1730, 3)]),
 ];
 
 #[test]
@@ -424,9 +442,15 @@ fn an_unsound_simulation_is_refused_by_1_in_every_call() {
         assert_unsound(&damaged, what);
     }
     assert_unsound(&edited(&sound, &[(0, 0)]), "a controller without sources");
+    for (at, what) in [(38, "first"), (39, "first"), (1154, "last")] {
+        let counted = edited(&sound, &[(at, 1)]);
+        assert_unsound(&counted, &format!("a count of the {what} source past n"));
+    }
     assert!(sound.is_sound());
-    let held = edited(&sound, &[(1220, 2), (1474, 2)]);
+    let held = edited(&sound, &[(1476, 2), (1730, 2)]);
     assert!(held.is_sound(), "other last holders below m");
+    let counted = edited(&sound, &[(11, 255), (12, 255), (29, 254), (30, 255)]);
+    assert!(counted.is_sound(), "any counts of sources in use");
 }
 
 /// The simulation with these bytes in place of its own.
@@ -494,14 +518,14 @@ fn the_documented_simulation_holds() {
     let counted: Vec<usize> = (0..1024).filter(|&at| memory.table[at] != 0).collect();
     assert_eq!(counted, [1]);
     for words in [
-        format!("the active ids, from 1,156 on, are `{}`.", active[3]),
+        format!("the active ids, from 1,412 on, are `{}`.", active[3]),
         format!(
             "which waits: `{}`. Exit on core 1, {}",
             active[5], answered[6]
         ),
         format!("Entry on core 1, {}: id 1.", answered[7]),
         format!(
-            "The active ids are `{}`, the last holders, from 1,220 on, `{holders}`",
+            "The active ids are `{}`, the last holders, from 1,476 on, `{holders}`",
             active[7]
         ),
         format!(

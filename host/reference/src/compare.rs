@@ -159,17 +159,18 @@ impl HandedBack {
 
 impl<L: Model, R: Model> Comparison<'_, L, R> {
     /// Runs the whole workload that the seed determines: makings of any sizes, a history of this
-    /// length by single commands and as one list, sound and broken states made from its end, lists
-    /// from there and from such states, and lent records.
+    /// length by single commands and as one list, sound and broken states made from its end, with any
+    /// counts of dropped triggers, lists from there and from such states, and lent records.
     pub fn round(&self, length: usize) -> Option<Difference> {
         let mut random = Random::new(self.seed);
         let (n, m) = generate::sizes(&mut random);
         let mix = random.pick(&Mix::ALL);
         let history = generate::history(random.bits(), n, m, length, mix);
-        let end = generate::final_state(&history);
+        let end = generate::counted(&mut random, &generate::final_state(&history));
         self.makings(&mut random)
             .or_else(|| self.history(&history))
             .or_else(|| self.list(&history))
+            .or_else(|| self.dropping(&mut random, &end))
             .or_else(|| self.set_apart(&mut random, &end))
             .or_else(|| self.broken_states(&mut random, &end))
             .or_else(|| self.lists(&mut random, &end))
@@ -212,18 +213,31 @@ impl<L: Model, R: Model> Comparison<'_, L, R> {
         self.run(Place { part, index: 0 }, state, &listed(commands))
     }
 
+    /// Goes on from a sound state with many triggers that are refused by 6, by single commands and as one list.
+    pub fn dropping(&self, random: &mut Random, sound: &Controller) -> Option<Difference> {
+        let part = &format!("dropped triggers at n = {}, m = {}", sound.n, sound.m);
+        let mix = random.pick(&Mix::ALL);
+        let commands = generate::dropping_from(random.bits(), sound, 60, mix);
+        self.both_ways(part, sound, &commands)
+    }
+
     /// Goes on from a sound state whose requests differ from their sources in priority, by single commands and as one list.
     pub fn set_apart(&self, random: &mut Random, sound: &Controller) -> Option<Difference> {
         let state = generate::set_apart(random, sound);
         let part = &format!("sources set apart at n = {}, m = {}", state.n, state.m);
         let mix = random.pick(&Mix::ALL);
         let commands = generate::commands_from(random.bits(), &state, 60, mix);
-        let (mut left, mut right) = (self.left.load(&state), self.right.load(&state));
+        self.both_ways(part, &state, &commands)
+    }
+
+    /// Runs commands from a state, one by one and as one list.
+    fn both_ways(&self, part: &str, from: &Controller, commands: &[Command]) -> Option<Difference> {
+        let (mut left, mut right) = (self.left.load(from), self.right.load(from));
         let mut each = commands.iter().enumerate();
         let single = each.find_map(|(index, &command)| {
             self.execute(Place { part, index }, &mut left, &mut right, command)
         });
-        single.or_else(|| self.run(Place { part, index: 0 }, &state, &listed(&commands)))
+        single.or_else(|| self.run(Place { part, index: 0 }, from, &listed(commands)))
     }
 
     /// Puts lists of several lengths, whole ones and ones with a number above 7 in them, to a sound state, to one made from it whose
@@ -436,6 +450,7 @@ impl Fields {
         self.field(&of("pending"), left.pending, right.pending);
         self.field(&of("delivered"), left.delivered, right.delivered);
         self.field(&of("request"), left.request, right.request);
+        self.field(&of("dropped"), left.dropped, right.dropped);
     }
 
     fn core(&mut self, name: &str, left: &Core, right: &Core) {

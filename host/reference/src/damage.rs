@@ -80,12 +80,14 @@ fn near(random: &mut Random, size: u16, limit: usize) -> usize {
 }
 
 fn change_source(random: &mut Random, source: &mut Source) {
-    match random.below(5) {
+    match random.below(6) {
         0 => source.configured = other_number(random, source.configured),
         1 => source.masked = !source.masked,
         2 => source.pending = !source.pending,
         3 => source.delivered = !source.delivered,
-        _ => source.request = other_number(random, source.request),
+        4 => source.request = other_number(random, source.request),
+        // Of a source in use it may be any.
+        _ => source.dropped = other_number(random, source.dropped),
     }
 }
 

@@ -81,6 +81,32 @@ pub fn set_apart(random: &mut Random, sound: &Controller) -> Controller {
     apart
 }
 
+/// The same state with any counts of dropped triggers: sound.
+pub fn counted(random: &mut Random, sound: &Controller) -> Controller {
+    let mut counted = sound.clone();
+    for id in sound.ids() {
+        counted.source_mut(id).dropped = count(random);
+    }
+    counted
+}
+
+/// A count of dropped triggers: none, one, a full byte, the last two, or any.
+fn count(random: &mut Random) -> u16 {
+    let any = random.any();
+    random.pick(&[0, 1, 255, 65_534, 65_535, any])
+}
+
+/// Commands that go on from a sound state, every other one a trigger of a pending source, if there is
+/// one.
+pub fn dropping_from(seed: u64, sound: &Controller, length: usize, mix: Mix) -> Vec<Command> {
+    let mut generator = Generator::going_on(seed, sound.clone(), mix);
+    let command = |place| match place % 2 {
+        0 => generator.command(),
+        _ => generator.dropped(),
+    };
+    (0..length).map(command).collect()
+}
+
 /// Lists for a sound state, or one made from it: of no command, of one, of two and of 3 to 40, each
 /// once whole, and once with a number above 7 in the place of a command.
 pub fn lists_from(random: &mut Random, sound: &Controller) -> Vec<Vec<Listed>> {
@@ -188,6 +214,7 @@ pub fn borrowed_sources(random: &mut Random) -> Vec<Source> {
             pending: random.flag(),
             delivered: random.flag(),
             request: random.within(0..=spread),
+            dropped: count(random),
         })
         .collect()
 }
@@ -236,6 +263,7 @@ fn list_with(random: &mut Random, chosen: &[bool], spread: u16) -> Vec<Source> {
             pending,
             delivered,
             request: random.within(0..=spread),
+            dropped: count(random),
         }
     };
     chosen.iter().map(record).collect()
@@ -388,6 +416,15 @@ impl Generator {
             command
         } else {
             self.accepted()
+        };
+        reference::execute(&mut self.controller, command);
+        command
+    }
+
+    /// A trigger that is refused by 6, or another command if nothing is pending.
+    fn dropped(&mut self) -> Command {
+        let Some(command) = self.unfitting(Kind::Trigger) else {
+            return self.command();
         };
         reference::execute(&mut self.controller, command);
         command

@@ -2,6 +2,7 @@
 //!
 //! - [`records`], [`well_formed`] and [`mod@reference`] are the reference model.
 //! - [`ledger`] and [`demand3`] are document 01's book and the check of demand 3 against it.
+//! - [`dropped`] checks the counts of dropped triggers against what a run answered.
 //! - [`random`], [`generate`] and [`damage`] make histories, broken states and records to lend.
 //! - [`recording`] reads and replays the bus monitor's text; [`texts`] makes such texts.
 //! - [`writing`] writes a run of commands as such a text.
@@ -11,6 +12,7 @@
 pub mod compare;
 pub mod damage;
 pub mod demand3;
+pub mod dropped;
 pub mod generate;
 pub mod ledger;
 pub mod model;

@@ -33,16 +33,19 @@ pub struct Source {
     pub delivered: bool,
     /// The request's priority, copied from the configured one at trigger.
     pub request: u16,
+    /// The triggers refused by 6, held at 65,535 (request 7/14).
+    pub dropped: u16,
 }
 
 impl Source {
-    /// Fresh: masked, configured priority 1, nothing pending.
+    /// Fresh: masked, configured priority 1, nothing pending, nothing dropped.
     pub const RESET: Source = Source {
         configured: 1,
         masked: true,
         pending: false,
         delivered: false,
         request: 0,
+        dropped: 0,
     };
 
     /// "Waiting" means pending and not delivered.

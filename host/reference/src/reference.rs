@@ -22,10 +22,10 @@ pub fn make(n: u16, m: u16) -> (u8, Controller) {
     }
 }
 
-/// Runs one command whole: checks, effect, settling. A refused command leaves the state as given.
+/// Runs one command whole: checks, effect, settling.
 pub fn execute(controller: &mut Controller, command: Command) -> Answer {
     if let Err(refusal) = check(controller, command) {
-        return Answer::refused(refusal);
+        return refuse(controller, command, refusal);
     }
     let id = apply(controller, command);
     let cycles = settle(controller);
@@ -34,6 +34,16 @@ pub fn execute(controller: &mut Controller, command: Command) -> Answer {
         id,
         cycles,
     }
+}
+
+/// Refuses a command. The state stays as given, but for the count of triggers refused by 6: that
+/// of their source is one more, held at 65,535 (request 7/14).
+pub fn refuse(controller: &mut Controller, command: Command, refusal: Refusal) -> Answer {
+    if let (Command::Trigger(id), Refusal::Pending) = (command, refusal) {
+        let dropped = &mut controller.source_mut(id).dropped;
+        *dropped = dropped.saturating_add(1);
+    }
+    Answer::refused(refusal)
 }
 
 /// Whether the command is taken. Order: 1, then 3 or 4, then 5, then 6, 7, 8 or 9.

@@ -222,10 +222,14 @@ pub fn make(n: u16, m: u16) -> (u8, Routines) {
     (number, Routines::fresh(controller.n, controller.m))
 }
 
-/// Runs one call whole. A refused call leaves the simulation as given.
+/// Runs one call whole. A refused call leaves the simulation as given, but for the controller's count
+/// of a refused trigger.
 pub fn call(routines: &mut Routines, call: Call) -> Answer {
     if let Err(refusal) = check(routines, call) {
-        return Answer::refused(refusal);
+        return match call.command() {
+            Some(command) => reference::refuse(&mut routines.controller, command, refusal),
+            None => Answer::refused(refusal),
+        };
     }
     match call {
         Call::Enter(core) => enter(routines, core),

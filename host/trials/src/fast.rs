@@ -13,6 +13,7 @@ struct Source {
     pending: bool,
     delivered: bool,
     priority: u16,
+    dropped: u16,
 }
 #[derive(Clone, Copy)]
 struct MessageBox {
@@ -104,6 +105,7 @@ impl Source {
             && !self.pending
             && !self.delivered
             && self.priority == 0
+            && self.dropped == 0
     }
 }
 fn highest(keys: &[u32]) -> usize {
@@ -144,6 +146,7 @@ impl Controller {
                 pending: false,
                 delivered: false,
                 priority: 0,
+                dropped: 0,
             }; 128],
             cores: [Core {
                 configured: 0,
@@ -301,6 +304,7 @@ impl Controller {
             Command::Trigger(id) => {
                 let r = self.source(id)?;
                 if r.pending {
+                    r.dropped = r.dropped.saturating_add(1);
                     return Err(6);
                 }
                 r.pending = true;

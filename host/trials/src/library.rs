@@ -7,8 +7,8 @@ use psic_reference::records::{
 };
 
 const SOURCES_FROM: usize = 4;
-const SOURCE_SIZE: usize = 7;
-const CORES_FROM: usize = 900;
+const SOURCE_SIZE: usize = 9;
+const CORES_FROM: usize = 1156;
 const CORE_SIZE: usize = 8;
 
 /// The proved library with its own numbers: a call a command, or a call a list.
@@ -167,6 +167,7 @@ pub fn bytes_of(controller: &Controller) -> Vec<u8> {
         bytes.extend(source.configured.to_le_bytes());
         bytes.extend([source.masked, source.pending, source.delivered].map(u8::from));
         bytes.extend(source.request.to_le_bytes());
+        bytes.extend(source.dropped.to_le_bytes());
     }
     for core in &controller.cores {
         bytes.extend(core.configured.to_le_bytes());
@@ -190,6 +191,7 @@ pub fn controller_of(bytes: &[u8]) -> Controller {
             pending: flag(at + 3),
             delivered: flag(at + 4),
             request: word(at + 5),
+            dropped: word(at + 7),
         };
     }
     for (k, core) in controller.cores.iter_mut().enumerate() {
@@ -236,6 +238,7 @@ pub fn lent_source(source: &Source) -> psic::Source {
         pending: source.pending,
         delivered: source.delivered,
         priority: source.request,
+        dropped: source.dropped,
     }
 }
 

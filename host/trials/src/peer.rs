@@ -40,6 +40,7 @@ struct Sources {
     pending: [bool; SOURCES],
     delivered: [bool; SOURCES],
     request: [u16; SOURCES],
+    dropped: [u16; SOURCES],
     /// [`Sources::rank`] of each, kept up with it.
     ranks: [u32; SOURCES],
 }
@@ -152,6 +153,7 @@ impl Controller {
                 pending: sources.map(|source| source.pending),
                 delivered: sources.map(|source| source.delivered),
                 request: sources.map(|source| source.request),
+                dropped: sources.map(|source| source.dropped),
                 ranks: [0; SOURCES],
             },
             cores: Cores {
@@ -180,6 +182,7 @@ impl Controller {
                 pending: sources.pending[i],
                 delivered: sources.delivered[i],
                 request: sources.request[i],
+                dropped: sources.dropped[i],
             }),
             cores: std::array::from_fn(|k| Core {
                 configured: cores.configured[k],
@@ -261,7 +264,11 @@ impl Controller {
             }
             Command::Trigger(id) => {
                 let i = self.source(id)?;
-                refuse_if(self.sources.pending[i], 6)?;
+                if self.sources.pending[i] {
+                    let dropped = &mut self.sources.dropped[i];
+                    *dropped = dropped.saturating_add(1);
+                    return Err(6);
+                }
                 self.sources.pending[i] = true;
                 self.sources.request[i] = self.sources.configured[i];
                 Ok((0, self.offer(i)))
@@ -417,6 +424,7 @@ impl Controller {
             && all(&sources.pending[n..], false)
             && all(&sources.delivered[n..], false)
             && all(&sources.request[n..], 0)
+            && all(&sources.dropped[n..], 0)
             && all(&cores.configured[m..], 0)
             && all(&cores.filled[m..], false)
             && all(&cores.dirty[m..], false)

@@ -54,12 +54,14 @@ impl Model for Wrapper {
         (controller.n, controller.m) = (state.source_count(), state.core_count());
         for (id, source) in state.sources() {
             assert_eq!(state.source(id), Some(source));
+            assert_eq!(state.dropped(id), Some(source.dropped));
             controller.sources[usize::from(id.0) - 1] = Source {
                 configured: source.configured,
                 masked: source.masked,
                 pending: source.pending,
                 delivered: source.delivered,
                 request: source.priority,
+                dropped: source.dropped,
             };
         }
         for (number, core) in state.cores() {

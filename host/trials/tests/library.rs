@@ -1,6 +1,7 @@
 //! The proved library, and the typed wrapper over it, do what the independent model does: call by call, in whole lists, from sound and
 //! broken states, and on lent records.
 
+mod dropped;
 mod lists;
 mod peer;
 mod recordings;
@@ -187,30 +188,83 @@ fn the_documented_example_holds() {
     let mut state = vec![0xff; STATE_SIZE];
     bytes::make(2, 1, &mut state).expect("sizes in range");
     assert_eq!(hex(&state[..4]), "02 00 01 00");
-    assert!(state[4..900]
-        .chunks(7)
-        .all(|source| hex(source) == "01 00 01 00 00 00 00"));
-    assert!(state[900..].iter().all(|&byte| byte == 0));
+    assert!(state[4..1156]
+        .chunks(9)
+        .all(|source| hex(source) == "01 00 01 00 00 00 00 00 00"));
+    assert!(state[1156..].iter().all(|&byte| byte == 0));
     let mut answers = [0; 2 * ANSWER_SIZE];
     let list = [2, 1, 0, 0, 0, 4, 1, 0, 0, 0];
     assert_eq!(bytes::run(&mut state, &list, &mut answers), Ok(2));
     assert_eq!(hex(&answers[ANSWER_SIZE..]), "00 00 00 01 00");
+    let [source, core] = [hex(&state[4..13]), hex(&state[1156..1164])];
+    let mut again = [0; ANSWER_SIZE];
+    assert_eq!(bytes::run(&mut state, &list[5..], &mut again), Ok(1));
     for text in [
         "02 00 01 00".to_string(),
-        "01 00 01 00 00 00 00".to_string(),
-        hex(&state[4..11]),
-        hex(&state[900..908]),
+        "128 times `01 00 01 00 00 00 00 00 00`".to_string(),
+        format!("the first source is `{source}`"),
+        core,
         hex(&answers[ANSWER_SIZE..]),
         hex(&encoded(Command::Trigger(SourceId(4)))),
+        format!("Trigger 1 again answers `{}`", hex(&again)),
+        format!("`{}`, with nothing else changed", hex(&state[4..13])),
     ] {
         assert!(document.contains(&text), "docs/ENCODING.md lacks {text}");
+    }
+    let triggers = list[5..].repeat(65_534);
+    let mut answers = vec![0; triggers.len()];
+    for taken in [65_534, 1] {
+        let listed = &triggers[..COMMAND_SIZE * taken];
+        assert_eq!(bytes::run(&mut state, listed, &mut answers), Ok(taken));
+        assert_eq!(hex(&state[11..13]), "ff ff");
+    }
+    assert!(
+        document.contains("After 65,535 such answers its last two bytes are `ff ff`, and stay so.")
+    );
+}
+
+/// A number as the documents write it.
+fn with_comma(number: usize) -> String {
+    match number / 1000 {
+        0 => number.to_string(),
+        thousands => format!("{thousands},{:03}", number % 1000),
+    }
+}
+
+/// The sizes and offsets of docs/ENCODING.md and of the page for hosts.
+#[test]
+fn the_documented_sizes_hold() {
+    let document = include_str!("../../../docs/ENCODING.md");
+    let (state, routines) = (with_comma(STATE_SIZE), with_comma(psic::ROUTINES_SIZE));
+    let holders = with_comma(STATE_SIZE + 2 * psic::MAX_CORES);
+    let source = (STATE_SIZE - 4 - 8 * psic::MAX_CORES) / psic::MAX_SOURCES;
+    let cores = with_comma(4 + source * psic::MAX_SOURCES);
+    for text in [
+        format!("## A state: {state} bytes\n"),
+        format!("| 4 + {source} (id - 1) | {source} | source id, for ids 1 to 128 |\n"),
+        format!("| {cores} + 8 k | 8 | core k, for cores 0 to 31 |\n"),
+        format!("if there are {state} of them"),
+        format!("of another length than {state},"),
+        format!("## A simulation: {routines} bytes\n"),
+        format!("| 0 | {state} | the controller's state |\n| {state} + 2 k | 2 |"),
+        format!("| {holders} + 2 (id - 1) | 2 |"),
+        format!("three buffers: `state`, {state} bytes;"),
+        format!("A source record has {} bytes", size_of::<psic::Source>()),
+    ] {
+        assert!(document.contains(&text), "docs/ENCODING.md lacks {text}");
+    }
+    let page = include_str!("../../README.md");
+    let memory = format!("A state is {state} bytes that the host owns, a simulation {routines};");
+    let simulation = format!("each request: {routines} bytes, `psic_routines` or `Routines`");
+    for text in [memory, simulation] {
+        assert!(page.contains(&text), "host/README.md lacks {text}");
     }
 }
 
 /// The offsets of all flags: three of each source, two of each core.
 fn flags() -> Vec<usize> {
-    let sources = (0..128).flat_map(|i| [2, 3, 4].map(|field| 4 + 7 * i + field));
-    let cores = (0..32).flat_map(|k| [2, 3].map(|field| 900 + 8 * k + field));
+    let sources = (0..128).flat_map(|i| [2, 3, 4].map(|field| 4 + 9 * i + field));
+    let cores = (0..32).flat_map(|k| [2, 3].map(|field| 1156 + 8 * k + field));
     sources.chain(cores).collect()
 }
 

@@ -31,16 +31,23 @@ add-word-at c = search needs
 word-at-requires-2 : tie.Need-word-at-requires-2
 word-at-requires-2 c κs = search needs
 
+add-word-at-2 : tie.Need-add-word-at-2
+add-word-at-2 c = search needs
+
+word-at-requires-3 : tie.Need-word-at-requires-3
+word-at-requires-3 c κs = search needs
+
 source-with-requires : tie.Need-source-with-requires
 source-with-requires c κs = search needs
 
 returns : tie.Need-returns
 returns c =
-    let a = c .before .before .before .before .before .before .before .args in
-    let word-1 = c .before .before .before .before .before .word-at in
-    let word-2 = c .before .word-at2 in
-    source-read (a .b .now) (a .i) (word-1 .result) (word-2 .result) (c .source-with .result) (word-1 .ensures) (word-2 .ensures)
-    (c .source-with .ensures)
+    let a = c .before .before .before .before .before .before .before .before .args in
+    let word-1 = c .before .before .before .before .before .before .word-at in
+    let word-2 = c .before .before .word-at2 in
+    let word-3 = c .before .word-at3 in
+    source-read (a .b .now) (a .i) (word-1 .result) (word-2 .result) (word-3 .result) (c .source-with .result) (word-1 .ensures)
+    (word-2 .ensures) (word-3 .ensures) (c .source-with .ensures)
 
 pub source-from-spec : {M : Type 1} → statement M
 source-from-spec =
@@ -55,5 +62,7 @@ source-from-spec =
     shared-slice-read-source-with-3
     add-word-at
     word-at-requires-2
+    add-word-at-2
+    word-at-requires-3
     source-with-requires
     returns)

@@ -42,21 +42,33 @@ add-put-word c = search needs
 put-word-requires-2 : tie.Need-put-word-requires-2
 put-word-requires-2 c κs = simp length-set (omega arith)
 
+add-put-word-2 : tie.Need-add-put-word-2
+add-put-word-2 c = search needs
+
+put-word-requires-3 : tie.Need-put-word-requires-3
+put-word-requires-3 c κs =
+    let stores = c .before .before .before in
+    let first = stores .before .before .before .before .before .before .before in
+    omega (arith, simp length-set at (stores .put-word2 .kept .0), first .put-word .kept .0)
+
 same-length : tie.Need-same-length
 same-length c =
-    let first = c .before .before .before .before .before .before .before .before .before in
-    omega (arith, simp length-set at (c .before .before .put-word2 .kept .0), first .put-word .kept .0)
+    let stores = c .before .before .before .before .before .before in
+    let first = stores .before .before .before .before .before .before .before in
+    omega (arith, c .before .before .put-word3 .kept .0, simp length-set at (stores .put-word2 .kept .0), first .put-word .kept .0)
 
 returns : tie.Need-returns
 returns c =
-    let a = c .before .before .before .before .before .before .before .before .before .before .before .before .args in
-    let word-1 = c .before .before .before .before .before .before .before .before .before .put-word in
-    let masked = c .before .before .before .before .before .before .flag-byte in
-    let pending = c .before .before .before .before .before .flag-byte2 in
-    let delivered = c .before .before .before .before .flag-byte3 in
-    let word-2 = c .before .before .put-word2 in
-    source-written (a .b .now) (a .i) (a .r) (word-1 .last .0) (word-2 .last .0) (masked .result) (pending .result) (delivered .result)
-    (word-1 .ensures) (masked .ensures) (pending .ensures) (delivered .ensures) (word-2 .ensures)
+    let stores = c .before .before .before .before .before .before in
+    let a = stores .before .before .before .before .before .before .before .before .before .before .args in
+    let word-1 = stores .before .before .before .before .before .before .before .put-word in
+    let masked = stores .before .before .before .before .flag-byte in
+    let pending = stores .before .before .before .flag-byte2 in
+    let delivered = stores .before .before .flag-byte3 in
+    let word-2 = stores .put-word2 in
+    let word-3 = c .before .before .put-word3 in
+    source-written (a .b .now) (a .i) (a .r) (word-1 .last .0) (word-2 .last .0) (word-3 .last .0) (masked .result) (pending .result)
+    (delivered .result) (word-1 .ensures) (masked .ensures) (pending .ensures) (delivered .ensures) (word-2 .ensures) (word-3 .ensures)
 
 pub put-source-spec : {M : Type 1} → statement M
 put-source-spec =
@@ -74,5 +86,7 @@ put-source-spec =
     slice-write-b-3
     add-put-word
     put-word-requires-2
+    add-put-word-2
+    put-word-requires-3
     same-length
     returns)

@@ -1,14 +1,17 @@
 -- `source_steps::on_source` meets its contract: the checks in their order, then the record stored, its request offered. Assumes nothing.
+use Prim.Native.Nat.{_-_, _<_}
 use mathlib.Core.Path.{_≡_}
 use mathlib.Core.Bool.{true}
+use lib.ListN.{length}
 use native.Mathlib.Omega.{arith}
 use borrow.Author.Needs.{needs}
 use borrow.Author.Tests.{not-true, not-false}
+use Rattle.model.specs.Records.{maxSources}
 use Rattle.model.specs.Commands.{namesSource}
-use Rattle.layout.specs.Bytes.{stateFrom}
+use Rattle.layout.specs.Bytes.{stateSize, stateFrom}
 use Rattle.in_place.proofs.Stored.{held-length}
 use Rattle.source_steps.proofs.Sourced.{cores-fit, named-by, bad-source, some-id, in-array}
-use Rattle.source_steps.proofs.Sourced.{Judged, judged, refused-later, offered, accepted}
+use Rattle.source_steps.proofs.Sourced.{Judged, judged, refused-later, dropped, offered, accepted}
 use Rattle.source_steps.proofs.on_source.Statement.{statement}
 use Rattle.source_steps.proofs.on_source.Tie as tie
 
@@ -36,6 +39,12 @@ found c =
     let read = c .before .before .before in
     judged (start at .pre) _ (named at) (start at .args .a) (at .before .before .word-at .ensures)
     (read .before .before .word-at2 .ensures) (read .source-at .ensures) (c .before .is-claimed .ensures) (c .source-refusal .ensures)
+
+-- the bytes have room for the record named
+room : (c : tie.After-source-refusal) →
+    let a = start (passed c) .args in
+    (length (a .state .now) ≡ stateSize) × (a .id .0 - 1 < maxSources)
+room c = let at = passed c in (held-length (start at .pre .held), in-array (start at .pre) _ (named at))
 
 word-at-requires : tie.Need-word-at-requires
 word-at-requires c κs = omega (arith, held-length (c .before .before .pre .held))
@@ -81,6 +90,12 @@ is-claimed-requires c κs =
 source-refusal-requires : tie.Need-source-refusal-requires
 source-refusal-requires c κs = search needs
 
+dropped-one-requires : tie.Need-dropped-one-requires
+dropped-one-requires c κs = search needs
+
+put-source-requires : tie.Need-put-source-requires
+put-source-requires c κs = room (c .before .before .before .before)
+
 answered-requires-2 : tie.Need-answered-requires-2
 answered-requires-2 c κs = search needs
 
@@ -89,35 +104,49 @@ same-length-2 c = search needs
 
 returns-2 : tie.Need-returns-2
 returns-2 c =
-    let asked = c .before .before in
-    refused-later (start (passed asked) .pre) (found asked) (λ e. absurd (omega (arith, c .before .if2 .taken))) (c .answered2 .ensures)
+    let stored = c .before .before .before in
+    let made = stored .before in
+    let asked = made .before .before .before .before in
+    dropped (start (passed asked) .pre) (found asked) _ (stored .put-source .ensures) (made .before .before .before .if2 .taken)
+    (made .dropped-one .ensures) (c .answered2 .ensures)
 
-source-after-requires : tie.Need-source-after-requires
-source-after-requires c κs = search needs
-
-put-source-requires : tie.Need-put-source-requires
-put-source-requires c κs =
-    let at = passed (c .before .before .before .before) in (held-length (start at .pre .held), in-array (start at .pre) _ (named at))
-
-offer-requires : tie.Need-offer-requires
-offer-requires c κs =
-    let stored = c .before .before .before .before .before in
-    let made = stored .before .before .before in
-    let asked = made .before .before in
-    offered (start (passed asked) .pre) (found asked) (omega (arith, made .before .if2 .left)) (made .source-after .ensures)
-    (stored .put-source .ensures)
+answered-requires-3 : tie.Need-answered-requires-3
+answered-requires-3 c κs = search needs
 
 same-length-3 : tie.Need-same-length-3
 same-length-3 c = search needs
 
 returns-3 : tie.Need-returns-3
 returns-3 c =
+    let asked = c .before .before .before in
+    refused-later (start (passed asked) .pre) (found asked) (λ e. absurd (omega (arith, c .before .if3 .taken)))
+    (c .before .before .if2 .left) (c .answered3 .ensures)
+
+source-after-requires : tie.Need-source-after-requires
+source-after-requires c κs = search needs
+
+put-source-requires-2 : tie.Need-put-source-requires-2
+put-source-requires-2 c κs = room (c .before .before .before .before .before)
+
+offer-requires : tie.Need-offer-requires
+offer-requires c κs =
+    let stored = c .before .before .before .before .before in
+    let made = stored .before .before .before in
+    let asked = made .before .before .before in
+    offered (start (passed asked) .pre) (found asked) _ (stored .put-source2 .ensures) (omega (arith, made .before .if3 .left))
+    (made .source-after .ensures)
+
+same-length-4 : tie.Need-same-length-4
+same-length-4 c = search needs
+
+returns-4 : tie.Need-returns-4
+returns-4 c =
     let done = c .before .before in
     let stored = done .before .before .before .before .before .before in
     let made = stored .before .before .before in
-    let asked = made .before .before in
-    accepted (start (passed asked) .pre) (found asked) (omega (arith, made .before .if2 .left)) (made .source-after .ensures)
-    (stored .put-source .ensures) (done .offer .ensures)
+    let asked = made .before .before .before in
+    accepted (start (passed asked) .pre) (found asked) _ (stored .put-source2 .ensures) (omega (arith, made .before .if3 .left))
+    (made .source-after .ensures) (done .offer .ensures)
 
 pub on-source-spec : {M : Type 1} → statement M
 on-source-spec =
@@ -135,11 +164,16 @@ on-source-spec =
     source-at-requires
     is-claimed-requires
     source-refusal-requires
+    dropped-one-requires
+    put-source-requires
     answered-requires-2
     same-length-2
     returns-2
-    source-after-requires
-    put-source-requires
-    offer-requires
+    answered-requires-3
     same-length-3
-    returns-3)
+    returns-3
+    source-after-requires
+    put-source-requires-2
+    offer-requires
+    same-length-4
+    returns-4)

@@ -132,17 +132,19 @@ pub struct Comparison<'a, L: Simulator, R: Simulator> {
 
 impl<L: Simulator, R: Simulator> Comparison<'_, L, R> {
     /// Runs the whole workload that the seed determines: makings, a run of this length from a fresh
-    /// simulation by single calls and as one list, broken simulations made from its end, and lists
-    /// on all of these with tables as a host may hand them in.
+    /// simulation by single calls and as one list, sound and broken simulations made from its end,
+    /// with any counts of dropped triggers, and lists on all of these with tables as a host may hand
+    /// them in.
     pub fn round(&self, length: usize) -> Option<Difference> {
         let mut random = Random::new(self.seed);
         let (n, m) = runs::sizes(&mut random);
         let mix = random.pick(&[Mix::Even, Mix::Turnover, Mix::Handing, Mix::Handing]);
         let run = runs::run(random.bits(), n, m, length, mix);
-        let end = runs::end(&run).routines;
+        let end = runs::counted(&mut random, &runs::end(&run).routines);
         self.makings(&mut random)
             .or_else(|| self.run(&run))
             .or_else(|| self.list(&mut random, &run))
+            .or_else(|| self.dropping(&mut random, &end))
             .or_else(|| self.broken(&mut random, &end))
             .or_else(|| self.lists(&mut random, &end))
     }
@@ -179,6 +181,23 @@ impl<L: Simulator, R: Simulator> Comparison<'_, L, R> {
         let list: Vec<Listed> = run.calls.iter().copied().map(Listed::Call).collect();
         let start = with_a_table(random, Routines::fresh(n, m));
         self.run_listed(Place { part, index: 0 }, &start, &list)
+    }
+
+    /// Goes on from sound routines with many triggers that are refused by 6, by single calls and as
+    /// one list.
+    pub fn dropping(&self, random: &mut Random, sound: &Routines) -> Option<Difference> {
+        let (n, m) = (sound.controller.n, sound.controller.m);
+        let part = &format!("dropped triggers at n = {n}, m = {m}");
+        let mix = random.pick(&Mix::ALL);
+        let calls = runs::dropping_from(random.bits(), sound, 60, mix);
+        let start = with_a_table(random, sound.clone());
+        let (mut left, mut right) = (self.left.load(&start), self.right.load(&start));
+        let mut each = calls.iter().enumerate();
+        let single = each.find_map(|(index, &call)| {
+            self.call(Place { part, index }, &mut left, &mut right, call)
+        });
+        let list: Vec<Listed> = calls.iter().copied().map(Listed::Call).collect();
+        single.or_else(|| self.run_listed(Place { part, index: 0 }, &start, &list))
     }
 
     /// Puts one call of each kind, and all of them as a list, to broken simulations made from a

@@ -28,7 +28,7 @@ impl Event {
 /// Handovers by row and column, however many there are.
 pub type Counts = [[usize; MAX_CORES]; MAX_CORES];
 
-/// The accepted events, the newest first. A refused call changed nothing.
+/// The accepted events, the newest first. A refused call changed nothing but a count.
 fn accepted(history: &[Event]) -> impl Iterator<Item = &Event> {
     history.iter().rev().filter(|event| event.number == 0)
 }

@@ -4,6 +4,7 @@ use super::compare::Simulator;
 use super::history::{self, Counts, Event};
 use super::runs::Run;
 use super::{no_box_filled, none_above, none_idle, violated, Call, Routines, Simulation, NONE};
+use crate::dropped::{check_accepted, check_refused, Drops};
 use crate::records::{Answer, SourceId, MAX_CORES};
 
 /// How often a run meets what the properties speak of.
@@ -31,6 +32,8 @@ pub struct Followed<'a, S: Simulator> {
     pub history: Vec<Event>,
     /// The handovers in the history.
     pub counts: Counts,
+    /// The dropped triggers in the history.
+    pub drops: Drops,
     /// What was met.
     pub seen: Seen,
 }
@@ -45,6 +48,7 @@ impl<'a, S: Simulator> Followed<'a, S> {
             state,
             history: Vec::new(),
             counts: [[0; MAX_CORES]; MAX_CORES],
+            drops: Drops::reset(n),
             seen: Seen::default(),
         }
     }
@@ -64,9 +68,13 @@ impl<'a, S: Simulator> Followed<'a, S> {
         if let Some((from, to)) = history::newest_handover(&self.history) {
             self.counts[usize::from(from.0)][usize::from(to.0)] += 1;
         }
+        if let Call::Trigger(id) = call {
+            self.drops.triggered(id, answer.number);
+        }
         self.see(&before.routines, call, answer, &after.routines);
         check_state(&after.routines)?;
         check_table(&after, &self.counts)?;
+        self.drops.check(&after.routines.controller)?;
         self.check_running(&after.routines)?;
         let held = match call {
             Call::Enter(_) if answer.number == 0 => Some(SourceId(answer.id)),
@@ -128,7 +136,8 @@ impl<'a, S: Simulator> Followed<'a, S> {
 }
 
 /// From a fresh simulation no call is refused by 1 or 2. A refused call answers id 0 and 0 cycles
-/// and changes nothing. Only an entry answers an id. No call makes more than 2m cycles.
+/// and changes nothing but the count of a trigger that is refused by 6. An accepted one leaves the
+/// counts. Only an entry answers an id. No call makes more than 2m cycles.
 fn check_answer(
     call: Call,
     answer: Answer,
@@ -137,10 +146,17 @@ fn check_answer(
 ) -> Result<(), String> {
     let refused = answer.number != 0;
     let entered = matches!(call, Call::Enter(_)) && !refused;
+    let (controller, changed) = (&before.routines.controller, &after.routines.controller);
+    let mut beside = after.clone();
+    if let Some(command) = call.command() {
+        check_refused(controller, command, answer.number, changed)?;
+        beside.routines.controller = controller.clone();
+    }
+    check_accepted(controller, answer.number, changed)?;
     let holds = ![1, 2].contains(&answer.number)
-        && (!refused || before == after && answer.cycles == 0)
+        && (!refused || *before == beside && answer.cycles == 0)
         && (answer.id != 0) == entered
-        && answer.cycles <= 2 * before.routines.controller.m;
+        && answer.cycles <= 2 * controller.m;
     match holds {
         true => Ok(()),
         false => Err(format!("answered {answer:?}, or a refused call changed it")),

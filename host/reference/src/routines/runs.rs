@@ -58,6 +58,25 @@ pub fn calls_from(seed: u64, sound: &Routines, length: usize, mix: Mix) -> Vec<C
     (0..length).map(|_| generator.call()).collect()
 }
 
+/// Calls that go on from sound routines, every other one a trigger of a pending source, if there is
+/// one.
+pub fn dropping_from(seed: u64, sound: &Routines, length: usize, mix: Mix) -> Vec<Call> {
+    let mut generator = Generator::going_on(seed, sound.clone(), mix);
+    let call = |place| match place % 2 {
+        0 => generator.call(),
+        _ => generator.dropped(),
+    };
+    (0..length).map(call).collect()
+}
+
+/// The same routines with any counts of dropped triggers: sound.
+pub fn counted(random: &mut Random, sound: &Routines) -> Routines {
+    Routines {
+        controller: generate::counted(random, &sound.controller),
+        ..sound.clone()
+    }
+}
+
 /// Lists for sound routines, or broken ones made from them: of no call, of one, of two and of 3 to
 /// 40, each once whole, and once with a number in the place of a call that names none.
 pub fn lists_from(random: &mut Random, sound: &Routines) -> Vec<Vec<Listed>> {
@@ -250,6 +269,15 @@ impl Generator {
             call
         } else {
             self.accepted()
+        };
+        super::call(&mut self.routines, call);
+        call
+    }
+
+    /// A trigger that is refused by 6, or another call if nothing is pending.
+    fn dropped(&mut self) -> Call {
+        let Some(call) = self.unfitting(Kind::Trigger) else {
+            return self.call();
         };
         super::call(&mut self.routines, call);
         call

@@ -18,6 +18,7 @@ fn candidate(request: u16) -> Source {
         pending: true,
         delivered: false,
         request,
+        dropped: 0,
     }
 }
 
@@ -68,6 +69,20 @@ fn search_of_an_empty_list_finds_none() {
 fn search_finds_a_candidate_of_priority_0() {
     assert_eq!(highest_in(&[Source::RESET, candidate(0)]), (0, 2));
     assert_eq!(highest_in(&[candidate(0), candidate(0)]), (0, 1));
+}
+
+/// Request 7/14: neither among candidates of one priority nor of whether a record is one.
+#[test]
+fn search_does_not_look_at_the_counts() {
+    let with = |source: Source, dropped| Source { dropped, ..source };
+    for counts in [[0, 65535], [65535, 0], [1, 2], [65534, 65535]] {
+        let [first, second] = counts.map(|dropped| with(candidate(3), dropped));
+        assert_eq!(highest_in(&[first, second]), (0, 1));
+        assert_eq!(ranges_in(&[first, second]), (0, 3));
+        let idle = with(Source::RESET, counts[0]);
+        assert_eq!(highest_in(&[idle, idle, second]), (0, 3));
+        assert_eq!(ranges_in(&[idle, idle, second]), (0, 2));
+    }
 }
 
 #[test]

@@ -98,6 +98,7 @@ pub enum Field {
     Pending,
     Delivered,
     Request,
+    Dropped,
     CoreConfigured,
     Filled,
     Dirty,
@@ -106,7 +107,7 @@ pub enum Field {
 }
 
 impl Field {
-    pub const ALL: [Field; 12] = [
+    pub const ALL: [Field; 13] = [
         Field::N,
         Field::M,
         Field::SourceConfigured,
@@ -114,6 +115,7 @@ impl Field {
         Field::Pending,
         Field::Delivered,
         Field::Request,
+        Field::Dropped,
         Field::CoreConfigured,
         Field::Filled,
         Field::Dirty,
@@ -133,6 +135,7 @@ impl Field {
             Field::Pending => source.pending ^= true,
             Field::Delivered => source.delivered ^= true,
             Field::Request => source.request ^= 1,
+            Field::Dropped => source.dropped ^= 1,
             Field::CoreConfigured => core.configured ^= 1,
             Field::Filled => core.message.filled ^= true,
             Field::Dirty => core.message.dirty ^= true,
@@ -151,6 +154,7 @@ impl Field {
             Field::Pending => "source 128 pending",
             Field::Delivered => "source 128 delivered",
             Field::Request => "source 128 request",
+            Field::Dropped => "source 128 dropped",
             Field::CoreConfigured => "core 31 configured",
             Field::Filled => "core 31 box filled",
             Field::Dirty => "core 31 box dirty",
@@ -492,7 +496,7 @@ impl Model for Faulty {
             }
         }
         if let Err(refusal) = self.check(state, command) {
-            return Answer::refused(refusal);
+            return reference::refuse(state, command, refusal);
         }
         let before = state.clone();
         let id = self.apply(state, command);

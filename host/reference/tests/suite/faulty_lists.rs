@@ -35,6 +35,10 @@ pub enum ListFault {
     EmptyBoxClaimed,
     /// Redeliver, refused by 8 since the request lies in a box, has it wait.
     BoxedRequestWaits,
+    // Triggers that are refused by 6.
+    DropsNotCounted,
+    /// Of several in one list one is counted, since each is counted on from the list's start.
+    DropsCountedOnce,
     // Settling by kept numbers.
     /// Set core priority ends after its first delivery.
     SetCoreDeliversOnce,
@@ -63,7 +67,7 @@ pub enum ListFault {
 
 impl ListFault {
     /// All faults but the forgotten clauses.
-    pub const ALL: [ListFault; 18] = [
+    pub const ALL: [ListFault; 20] = [
         ListFault::FirstCommandUntested,
         ListFault::OnlyTheFirstRefused,
         ListFault::UnsoundStartRepaired,
@@ -71,6 +75,8 @@ impl ListFault {
         ListFault::PendingTriggerStored,
         ListFault::EmptyBoxClaimed,
         ListFault::BoxedRequestWaits,
+        ListFault::DropsNotCounted,
+        ListFault::DropsCountedOnce,
         ListFault::SetCoreDeliversOnce,
         ListFault::DeliveredKeepsItsNumber,
         ListFault::FilledCoreKeepsItsNumber,
@@ -220,7 +226,12 @@ impl FaultyList {
     fn step(&self, state: &mut Controller, kept: &mut Kept, command: Command) -> Answer {
         if let Err(refusal) = reference::check_command(state, command) {
             self.store_refused(state, kept, command, refusal);
-            return Answer::refused(refusal);
+            return match refusal {
+                Refusal::Pending if self.has(ListFault::DropsNotCounted) => {
+                    Answer::refused(refusal)
+                }
+                _ => reference::refuse(state, command, refusal),
+            };
         }
         let id = reference::apply(state, command);
         let cycles = match command {
@@ -245,7 +256,7 @@ impl FaultyList {
         accepted(id, cycles)
     }
 
-    /// What a refused command leaves: nothing, unless that is the fault.
+    /// What a refused command leaves besides a count: nothing, unless that is the fault.
     fn store_refused(
         &self,
         state: &mut Controller,
@@ -408,6 +419,11 @@ impl Model for FaultyList {
         }
         if self.has(ListFault::UnsoundStartRepaired) && !sound && !list.is_empty() {
             *state = repaired(&start);
+        }
+        if self.has(ListFault::DropsCountedOnce) {
+            for (after, before) in state.sources.iter_mut().zip(&start.sources) {
+                after.dropped = after.dropped.min(before.dropped.saturating_add(1));
+            }
         }
         Ran { taken, answers }
     }

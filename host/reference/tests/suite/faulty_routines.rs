@@ -2,7 +2,7 @@
 
 use psic_reference::model::Ran;
 use psic_reference::records::{
-    Answer, Command, Controller, CoreNumber, Refusal, SourceId, MAX_CORES,
+    Answer, Command, Controller, CoreNumber, Refusal, Source, SourceId, MAX_CORES,
 };
 use psic_reference::reference;
 use psic_reference::routines::compare::Simulator;
@@ -37,6 +37,12 @@ pub enum RoutineFault {
     HolderClearedAtExit,
     HolderNotClearedByATrigger,
     HolderClearedByARefusedTrigger,
+    // The counts of dropped triggers.
+    DropsNotCounted,
+    DropsWrap,
+    DropsHeldAt65534,
+    EntryClearsTheCount,
+    ExitClearsTheCount,
     // The table.
     RowAndColumnSwapped,
     SameCoreCounted,
@@ -107,7 +113,7 @@ impl Kind {
 
 impl RoutineFault {
     /// Wrong entries, exits, holders, tables and numbers: told by a run from a fresh simulation.
-    pub const OF_RUNS: [RoutineFault; 19] = [
+    pub const OF_RUNS: [RoutineFault; 22] = [
         RoutineFault::NotRedelivered,
         RoutineFault::RedeliveredBeforeTheClaim,
         RoutineFault::EntryAnswersNoId,
@@ -121,6 +127,9 @@ impl RoutineFault {
         RoutineFault::HolderClearedAtExit,
         RoutineFault::HolderNotClearedByATrigger,
         RoutineFault::HolderClearedByARefusedTrigger,
+        RoutineFault::DropsNotCounted,
+        RoutineFault::EntryClearsTheCount,
+        RoutineFault::ExitClearsTheCount,
         RoutineFault::RowAndColumnSwapped,
         RoutineFault::SameCoreCounted,
         RoutineFault::RefusedEntryCounts,
@@ -128,6 +137,10 @@ impl RoutineFault {
         RoutineFault::EmptyBoxBeforeTheCore,
         RoutineFault::IdleCoreBeforeTheCore,
     ];
+
+    /// Counts of dropped triggers that only a very long run from a fresh simulation can tell.
+    pub const OF_HIGH_COUNTS: [RoutineFault; 2] =
+        [RoutineFault::DropsWrap, RoutineFault::DropsHeldAt65534];
 
     /// Wrong lists, and a count that only a table that was handed in can tell.
     pub const OF_LISTS: [RoutineFault; 6] = [
@@ -265,6 +278,9 @@ impl FaultyRoutines {
         if !self.has(RoutineFault::HolderSetAtRedelivery) {
             routines.holder[place(id)] = Some(core);
         }
+        if self.has(RoutineFault::EntryClearsTheCount) {
+            routines.controller.source_mut(id).dropped = 0;
+        }
         if self.has(RoutineFault::EntryAnswersNoId) {
             claimed.id = 0;
         }
@@ -310,6 +326,9 @@ impl FaultyRoutines {
         if self.has(RoutineFault::HolderClearedAtExit) {
             routines.holder[place(ended)] = None;
         }
+        if self.has(RoutineFault::ExitClearsTheCount) {
+            routines.controller.source_mut(ended).dropped = 0;
+        }
         if self.has(RoutineFault::ExitAnswersTheId) {
             answer.id = ended.0;
         }
@@ -335,7 +354,7 @@ impl FaultyRoutines {
         }
     }
 
-    /// What a refused call leaves: nothing, unless that is the fault.
+    /// What a refused call leaves: nothing but the count of a dropped trigger, unless that is the fault.
     fn refused(&self, simulation: &mut Simulation, call: Call, refusal: Refusal) -> Answer {
         let routines = &mut simulation.routines;
         match (self.fault, refusal, call) {
@@ -360,7 +379,20 @@ impl FaultyRoutines {
             }
             _ => {}
         }
+        if let (Call::Trigger(id), Refusal::Pending) = (call, refusal) {
+            self.drop(simulation.routines.controller.source_mut(id));
+        }
         Answer::refused(refusal)
+    }
+
+    /// A trigger of this source was refused by 6.
+    fn drop(&self, source: &mut Source) {
+        source.dropped = match self.fault {
+            RoutineFault::DropsNotCounted => source.dropped,
+            RoutineFault::DropsWrap => source.dropped.wrapping_add(1),
+            RoutineFault::DropsHeldAt65534 if source.dropped == 65_534 => 65_534,
+            _ => source.dropped.saturating_add(1),
+        };
     }
 
     /// Runs a number that names no call, if that is the fault. Gives whether the list goes on.

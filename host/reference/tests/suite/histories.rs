@@ -1,5 +1,6 @@
 //! Runs that the tests share: the table's setting, a history step by step, random histories.
 
+use psic_reference::dropped;
 use psic_reference::generate::{self, History, Mix};
 use psic_reference::ledger::Ledger;
 use psic_reference::random::Random;
@@ -94,7 +95,7 @@ impl Run {
         assert_eq!(self.controller.current_priorities(), current, "{command:?}");
     }
 
-    /// The command is refused by this number, with id 0, 0 cycles and the state as given.
+    /// The command is refused by this number, with id 0, 0 cycles and the state as given, but for the count of a trigger refused by 6.
     pub fn refuses(&mut self, command: Command, number: u8) {
         let before = self.controller.clone();
         let answer = self.execute(command);
@@ -104,7 +105,8 @@ impl Run {
             cycles: 0,
         };
         assert_eq!(answer, expected, "{command:?}");
-        assert_eq!(self.controller, before, "{command:?}");
+        let checked = dropped::check_refused(&before, command, number, &self.controller);
+        assert_eq!(checked, Ok(()), "{command:?}");
     }
 
     pub fn source(&self, id: u16) -> &Source {

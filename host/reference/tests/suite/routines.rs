@@ -2,6 +2,7 @@
 
 use std::collections::HashSet;
 
+use psic_reference::dropped::{check_accepted, check_refused};
 use psic_reference::random::{run_seed, run_seeds, Random};
 use psic_reference::records::{Answer, Command, CoreNumber, SourceId, MAX_CORES};
 use psic_reference::reference;
@@ -71,7 +72,7 @@ impl ByHand {
         assert_eq!(self.active(), active, "{call:?}");
     }
 
-    /// The call is refused by this number. That nothing changes is one of the properties.
+    /// The call is refused by this number. That nothing changes but a count is one of the properties.
     fn refuses(&mut self, call: Call, number: u8) {
         assert_eq!(self.call(call).number, number, "{call:?}");
     }
@@ -311,8 +312,9 @@ pub fn random_runs(seed: u64, count: usize, length: usize) -> Vec<Run> {
     runs
 }
 
-/// After every call: sound, both clauses, the table is the history's, and a refused call changes
-/// nothing. Every number but 1 and 2 comes, and what the clauses speak of.
+/// After every call: sound, both clauses, the table and the counts of dropped triggers are the
+/// history's, and a refused call changes nothing else. Every number but 1 and 2 comes, and what the
+/// clauses speak of.
 #[test]
 fn long_runs_keep_every_property() {
     let mut all = Seen::default();
@@ -434,9 +436,17 @@ fn entries_exits_triggers(n: u16, m: u16) -> Vec<Call> {
     of_cores.chain((1..=n).map(trigger)).collect()
 }
 
+/// The simulation without its counts of dropped triggers, on which nothing else depends.
+fn uncounted(mut routines: Routines) -> Routines {
+    for source in &mut routines.controller.sources {
+        source.dropped = 0;
+    }
+    routines
+}
+
 /// Every simulation that a run over the alphabet reaches, of any length, is sound, keeps both
-/// clauses, refuses nothing by 1, and a refused call leaves it. Gives how many there are, and how
-/// many of their entries are handovers.
+/// clauses, refuses nothing by 1, and a refused call leaves it, but for the count of a trigger refused
+/// by 6. Gives how many there are, whatever they counted, and how many of their entries are handovers.
 fn every_run(start: Routines, calls: &[Call]) -> (usize, usize) {
     let mut seen = HashSet::from([start.clone()]);
     let mut open = vec![start];
@@ -446,13 +456,19 @@ fn every_run(start: Routines, calls: &[Call]) -> (usize, usize) {
             let mut after = before.clone();
             let answer = routines::call(&mut after, call);
             assert_ne!(answer.number, 1, "{before:?}");
-            assert!(answer.number == 0 || after == before, "{call:?}");
+            let command = call.command();
+            let (given, left) = (&before.controller, &after.controller);
+            let checked = command.map(|c| check_refused(given, c, answer.number, left));
+            assert_eq!(checked.unwrap_or(Ok(())), Ok(()), "{call:?}");
+            assert_eq!(check_accepted(given, answer.number, left), Ok(()));
             let holds = sound(&after) && none_above(&after) && none_idle(&after);
             assert!(holds, "{call:?} on {before:?}");
             if let (Call::Enter(core), 0) = (call, answer.number) {
                 let last = before.holder(SourceId(answer.id));
                 handovers += usize::from(last.is_some_and(|last| last != core));
             }
+            let after = uncounted(after);
+            assert!(answer.number == 0 || after == before, "{call:?}");
             if seen.insert(after.clone()) {
                 open.push(after);
             }

@@ -129,6 +129,7 @@ fn any_record_is_answered() {
             source.pending = random.flag();
             source.delivered = random.flag();
             source.request = random.any();
+            source.dropped = random.any();
         }
         for core in &mut controller.cores {
             *core = generate::borrowed_core(&mut random);
@@ -142,7 +143,7 @@ fn any_record_is_answered() {
 type Edit = (&'static str, fn(&mut Controller));
 
 /// At T4 source 4 lies in core 0's box, 5 in core 1's, and 3 waits. n = 32, m = 2, top is 127.
-const EDITS_OF_T4: [Edit; 34] = [
+const EDITS_OF_T4: [Edit; 36] = [
     ("n is 0", |c| c.n = 0),
     ("n is 129", |c| c.n = 129),
     ("m is 0", |c| c.m = 0),
@@ -181,6 +182,8 @@ const EDITS_OF_T4: [Edit; 34] = [
     }),
     ("source past n configured", |c| c.sources[32].configured = 2),
     ("source past n unmasked", |c| c.sources[127].masked = false),
+    ("count of a source past n", |c| c.sources[32].dropped = 1),
+    ("full count past n", |c| c.sources[127].dropped = 65535),
     ("core past m configured", |c| c.cores[2].configured = 1),
     ("core past m filled", |c| c.cores[31].message.filled = true),
     ("box names 0", |c| c.cores[0].message.id = 0),
@@ -231,6 +234,26 @@ fn idle(configured: u16) -> Source {
         configured,
         masked: false,
         ..Source::RESET
+    }
+}
+
+/// Request 7/14: of a source in use, pending or not, the count may be any; past n it is 0.
+#[test]
+fn counts_of_sources_in_use_may_be_any() {
+    let mut run = Run::table();
+    for id in [4, 3, 5] {
+        run.accept(trigger(id));
+    }
+    for place in 0..128 {
+        for count in [1, 2, 255, 256, 32767, 65534, 65535] {
+            let mut counted = run.controller.clone();
+            counted.sources[place].dropped = count;
+            let expected: &[Clause] = match place < 32 {
+                true => &[],
+                false => &[Clause::RecordsPastSizesAreReset],
+            };
+            assert_eq!(violated(&counted), expected, "source {}", place + 1);
+        }
     }
 }
 
@@ -487,6 +510,7 @@ fn sources(configured: &[u16], requests: &[u16]) -> Vec<Source> {
                     pending: flags & 2 != 0,
                     delivered: flags & 4 != 0,
                     request,
+                    dropped: 0,
                 });
             }
         }

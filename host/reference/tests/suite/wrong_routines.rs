@@ -80,6 +80,7 @@ fn every_wrong_run_is_found_by_comparing_and_by_the_properties() {
 fn every_fault_is_found_in_a_few_rounds() {
     let mut faults: Vec<RoutineFault> = Vec::new();
     faults.extend(RoutineFault::OF_RUNS);
+    faults.extend(RoutineFault::OF_HIGH_COUNTS);
     faults.extend(RoutineFault::OF_LISTS);
     faults.extend(RoutineFault::OF_TESTS);
     faults.extend(Kind::ALL.map(RoutineFault::OnlyTheControllerTested));

@@ -8,10 +8,10 @@
 //! Each text is read, one in four also replayed, and the totals are printed by number. Each run is written into a buffer that fits it
 //! exactly, or not, or amply.
 //!
-//! Each round of commands runs, from one printed seed, makings of any sizes, a history by single commands and as a list, the same from a
-//! sound state made from its end, one command of each kind and all of them as a list on broken states made from its end, lists of several
-//! lengths from its end and from such states, and lent records. Each round of calls does the same with a run of the interrupt routines and broken simulations. The first difference ends
-//! a run with status 1.
+//! Each round of commands runs, from one printed seed, makings of any sizes, a history by single commands and as a list, the same from
+//! sound states made from its end, with any counts of dropped triggers, one command of each kind and all of them as a list on broken
+//! states made from its end, lists of several lengths from its end and from such states, and lent records. Each round of calls does the
+//! same with a run of the interrupt routines and broken simulations. The first difference ends a run with status 1.
 
 use std::time::{SystemTime, UNIX_EPOCH};
 
@@ -161,5 +161,6 @@ fn broken_states(seed: u64, length: usize) -> usize {
     let (n, m) = generate::sizes(&mut random);
     let mix = random.pick(&Mix::ALL);
     let history = generate::history(random.bits(), n, m, length, mix);
-    damage::broken_states(&mut random, &generate::final_state(&history)).len()
+    let end = generate::counted(&mut random, &generate::final_state(&history));
+    damage::broken_states(&mut random, &end).len()
 }

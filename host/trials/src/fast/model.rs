@@ -40,6 +40,7 @@ impl Model for Fast {
                 pending: source.pending,
                 delivered: source.delivered,
                 priority: source.request,
+                dropped: source.dropped,
             }),
             cores: controller.cores.map(|core| Core {
                 configured: core.configured,
@@ -63,6 +64,7 @@ impl Model for Fast {
                 pending: source.pending,
                 delivered: source.delivered,
                 request: source.priority,
+                dropped: source.dropped,
             }),
             cores: state.cores.map(|core| records::Core {
                 configured: core.configured,

@@ -101,12 +101,12 @@ fn by_reference(state: &Controller, list: &[Listed]) -> Left {
     left
 }
 
-/// The fresh state of these sizes and ends of histories of every mix, each with states made from it: itself, one for each clause that it
-/// has a place for, and some that are one field away.
+/// The fresh state of these sizes and ends of histories of every mix with any counts of dropped triggers, each with states made from it:
+/// itself, one for each clause that it has a place for, and some that are one field away.
 fn states(random: &mut Random, n: u16, m: u16) -> Vec<(Controller, Vec<Controller>)> {
     let ends = Mix::ALL.map(|mix| {
         let history = generate::history(random.bits(), n, m, 400, mix);
-        generate::final_state(&history)
+        generate::counted(random, &generate::final_state(&history))
     });
     let sound = [Controller::reset(n, m)].into_iter().chain(ends);
     sound
@@ -180,9 +180,13 @@ fn every_slip_of_a_list_or_a_command_is_found_one_by_one() {
         Slip::ExecuteId,
         Slip::ExecuteCycles,
         Slip::ExecuteState,
+        Slip::ExecuteDropped,
+        Slip::ExecuteCountsLost,
         Slip::RunNumber,
         Slip::RunCycles,
         Slip::RunState,
+        Slip::RunDropped,
+        Slip::RunCountsLost,
         Slip::RunCount,
         Slip::RunBehindAnswers,
         Slip::RunStateOfUnsoundStart,
@@ -232,7 +236,8 @@ fn lists_on_sound_and_unsound_states_agree_with_the_reference() {
         for (n, m) in SIZES {
             for mix in Mix::ALL {
                 let history = generate::history(seed, n, m, 300, mix);
-                let sound = generate::final_state(&history);
+                let end = generate::final_state(&history);
+                let sound = generate::counted(&mut Random::new(seed), &end);
                 compare(&Library, seed, &sound);
                 compare(&Wrapper, seed, &sound);
                 compare(&Peer::Tested, seed, &sound);
@@ -302,11 +307,14 @@ fn every_slip_of_a_replay_is_found_by_a_run() {
         Slip::ReadCommand,
         Slip::RunNumber,
         Slip::RunState,
+        Slip::RunDropped,
+        Slip::RunCountsLost,
         Slip::ReplayNumber,
         Slip::ReplayOffset,
         Slip::ReplayCount,
         Slip::ReplayAnswer,
         Slip::ReplayState,
+        Slip::ReplayCountsLost,
         Slip::ReplayBehindAnswers,
     ] {
         let told = with_slip(slip, || compare_replays(run_seed(), 20));

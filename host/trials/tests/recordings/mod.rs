@@ -194,8 +194,8 @@ fn the_documented_recording_holds() {
             hex(&answers[..ANSWER_SIZE])
         ),
         format!(
-            "source 4's bytes, from 25 on, are `{}`",
-            hex(&state[25..32])
+            "source 4's bytes, from 31 on, are `{}`",
+            hex(&state[31..40])
         ),
     ] {
         assert!(document.contains(&words), "docs/ENCODING.md lacks {words}");

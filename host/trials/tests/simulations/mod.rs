@@ -107,12 +107,13 @@ fn a_list_of_65535_calls_agrees_with_the_reference() {
     assert!(expected.handovers.cells[0][1] > 1000);
 }
 
-/// Fresh routines of these sizes and ends of runs of every mix, each with broken ones made from it, some one field away, and a table.
+/// Fresh routines of these sizes and ends of runs of every mix with any counts of dropped triggers, each with broken ones made from it,
+/// some one field away, and a table.
 fn simulations(random: &mut Random, n: u16, m: u16) -> Vec<(Routines, Vec<Simulation>)> {
     let mut ends = vec![Routines::fresh(n, m)];
     for mix in Mix::ALL {
         let run = runs::run(random.bits(), n, m, 500, mix);
-        ends.push(runs::end(&run).routines);
+        ends.push(runs::counted(random, &runs::end(&run).routines));
     }
     let with_a_table = |random: &mut Random, routines: Routines| Simulation {
         routines,
@@ -337,6 +338,7 @@ fn every_slip_of_a_simulation_is_found() {
         Slip::ExitNumber,
         Slip::ExitCycles,
         Slip::ExitState,
+        Slip::ExitCountsLost,
         Slip::ExitActive,
     ] {
         let wrapper = with_slip(slips::Slip::Routines(slip), || {

@@ -7,9 +7,10 @@ pub mod routines;
 use std::cell::Cell;
 
 use psic::raw::{Claimed, Found, Ranged, Report};
-use psic::{Core, Source, ANSWER_SIZE, COMMAND_SIZE, STATE_SIZE};
+use psic::{Core, Source, ANSWER_SIZE, COMMAND_SIZE, MAX_SOURCES, STATE_SIZE};
 
-/// What of a call's answer is altered, if the call was accepted; or, where its name says so, if a list's start was unsound.
+/// What of a call's answer is altered, if the call was accepted; or, where its name says so, if a trigger was dropped or a list's start was
+/// unsound.
 #[derive(Clone, Copy, Debug, PartialEq, Eq)]
 pub enum Slip {
     MakeNumber,
@@ -18,9 +19,17 @@ pub enum Slip {
     ExecuteId,
     ExecuteCycles,
     ExecuteState,
+    /// A trigger that 6 refuses leaves its source's count.
+    ExecuteDropped,
+    /// An accepted command loses the counts of dropped triggers.
+    ExecuteCountsLost,
     RunNumber,
     RunCycles,
     RunState,
+    /// A list leaves the counts of dropped triggers as they were.
+    RunDropped,
+    /// It loses them.
+    RunCountsLost,
     /// The count of a list that a number above 7 ends is one more.
     RunCount,
     RunBehindAnswers,
@@ -46,6 +55,8 @@ pub enum Slip {
     ReplayCount,
     ReplayAnswer,
     ReplayState,
+    /// A replay ends with no count of dropped triggers, which texts of all kinds seldom have.
+    ReplayCountsLost,
     ReplayStateOfRefusedSizes,
     ReplayBehindAnswers,
     WriteNumber,
@@ -59,16 +70,20 @@ pub enum Slip {
 
 impl Slip {
     /// Of the calls on a state and on lent records.
-    pub const OF_COMMANDS: [Slip; 20] = [
+    pub const OF_COMMANDS: [Slip; 24] = [
         Slip::MakeNumber,
         Slip::MakeState,
         Slip::ExecuteNumber,
         Slip::ExecuteId,
         Slip::ExecuteCycles,
         Slip::ExecuteState,
+        Slip::ExecuteDropped,
+        Slip::ExecuteCountsLost,
         Slip::RunNumber,
         Slip::RunCycles,
         Slip::RunState,
+        Slip::RunDropped,
+        Slip::RunCountsLost,
         Slip::RunCount,
         Slip::RunBehindAnswers,
         Slip::RunStateOfUnsoundStart,
@@ -192,6 +207,48 @@ unsafe fn flip_last(state: *mut u8) {
     unsafe { *state.add(STATE_SIZE - 1) ^= 1 };
 }
 
+/// The counts of dropped triggers of all sources.
+type Counts = [[u8; 2]; MAX_SOURCES];
+
+/// No trigger is dropped.
+const NO_COUNTS: Counts = [[0; 2]; MAX_SOURCES];
+
+/// Where the count of each source lies in a state's bytes.
+fn counts_at() -> impl Iterator<Item = usize> {
+    (0..MAX_SOURCES).map(|i| 4 + 9 * i + 7)
+}
+
+/// The counts of a state, none of a buffer of another length.
+///
+/// # Safety
+///
+/// The pointer is to so many bytes.
+unsafe fn counts_of(state: *const u8, len: usize) -> Counts {
+    let mut counts = NO_COUNTS;
+    if len == STATE_SIZE {
+        for (count, at) in counts.iter_mut().zip(counts_at()) {
+            // SAFETY: the buffer has STATE_SIZE bytes.
+            *count = unsafe { [*state.add(at), *state.add(at + 1)] };
+        }
+    }
+    counts
+}
+
+/// Gives a state these counts.
+///
+/// # Safety
+///
+/// The pointer is to a state's buffer, which nobody else uses meanwhile.
+unsafe fn put_counts(state: *mut u8, counts: &Counts) {
+    for (&[low, high], at) in counts.iter().zip(counts_at()) {
+        // SAFETY: the buffer has STATE_SIZE bytes.
+        unsafe {
+            *state.add(at) = low;
+            *state.add(at + 1) = high;
+        }
+    }
+}
+
 #[no_mangle]
 unsafe extern "C" fn __wrap_psic_make(n: u16, m: u16, state: *mut u8, state_len: usize) -> u64 {
     // SAFETY: the arguments are passed on as they came, and the buffer of an accepted call is a state's.
@@ -215,14 +272,21 @@ unsafe extern "C" fn __wrap_psic_execute(
     at: u16,
     priority: u16,
 ) -> u64 {
-    // SAFETY: the arguments are passed on as they came, and the buffer of an accepted call is a state's.
+    // SAFETY: the arguments are passed on as they came, and the buffer of a call that is accepted, or refused by 6, is a state's.
     unsafe {
+        let counts = counts_of(state, state_len);
         let packed = __real_psic_execute(state, state_len, number, at, priority);
+        if packed == 6 && slips(Slip::ExecuteDropped) {
+            put_counts(state, &counts);
+        }
         if packed & 0xff != 0 {
             return packed;
         }
         if slips(Slip::ExecuteState) {
             flip_last(state);
+        }
+        if slips(Slip::ExecuteCountsLost) {
+            put_counts(state, &NO_COUNTS);
         }
         match SLIP.get() {
             Some(Slip::ExecuteNumber) => packed + 8,
@@ -244,6 +308,7 @@ unsafe extern "C" fn __wrap_psic_run(
 ) -> u64 {
     // SAFETY: the arguments are passed on as they came; the buffers of a call that took commands are a state's and theirs.
     unsafe {
+        let counts = counts_of(state, state_len);
         let taken = __real_psic_run(state, state_len, list, list_len, answers, answers_len);
         let ended = taken != u64::MAX && COMMAND_SIZE * (taken as usize) < list_len;
         if ended && slips(Slip::RunCount) {
@@ -257,6 +322,8 @@ unsafe extern "C" fn __wrap_psic_run(
         let unsound = *answers == 1;
         match SLIP.get() {
             Some(Slip::RunState) => flip_last(state),
+            Some(Slip::RunDropped) => put_counts(state, &counts),
+            Some(Slip::RunCountsLost) if !unsound => put_counts(state, &NO_COUNTS),
             Some(Slip::RunNumber) => *last = if *last == 0 { 8 } else { 0 },
             Some(Slip::RunCycles) if *last == 0 => *last.add(3) += 1,
             Some(Slip::RunBehindAnswers) if ended => *behind = 0,
@@ -367,6 +434,7 @@ unsafe extern "C" fn __wrap_psic_replay(
                 *last = if *last == 0 { 8 } else { 0 };
             }
             Some(Slip::ReplayState) if report.number == 0 => flip_last(state),
+            Some(Slip::ReplayCountsLost) if report.number == 0 => put_counts(state, &NO_COUNTS),
             Some(Slip::ReplayStateOfRefusedSizes) if report.number == 2 => flip_last(state),
             Some(Slip::ReplayBehindAnswers) if ANSWER_SIZE * count < answers_len => {
                 *answers.add(ANSWER_SIZE * count) = 0

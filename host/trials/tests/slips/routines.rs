@@ -2,7 +2,7 @@
 
 use psic::{ANSWER_SIZE, COMMAND_SIZE};
 
-use super::{flip_last, SLIP};
+use super::{counts_of, flip_last, put_counts, Counts, NO_COUNTS, SLIP};
 
 /// What is altered of an accepted call, or of a list; where its name says so, of one on an unsound simulation.
 #[derive(Clone, Copy, Debug, PartialEq, Eq)]
@@ -15,17 +15,23 @@ pub enum Slip {
     EnterId,
     EnterCycles,
     EnterState,
+    /// The counts of dropped triggers are lost.
+    EnterCountsLost,
     EnterActive,
     EnterHolder,
     ExitNumber,
     ExitCycles,
     ExitState,
+    ExitCountsLost,
     ExitActive,
     ExitHolder,
     SimulateNumber,
     SimulateId,
     SimulateCycles,
     SimulateState,
+    /// A list leaves the counts of dropped triggers as they were.
+    SimulateDropped,
+    SimulateCountsLost,
     SimulateActive,
     SimulateHolder,
     SimulateTable,
@@ -46,28 +52,32 @@ impl Slip {
         Slip::MakeHolder,
     ];
 
-    pub const OF_ENTRIES: [Slip; 6] = [
+    pub const OF_ENTRIES: [Slip; 7] = [
         Slip::EnterNumber,
         Slip::EnterId,
         Slip::EnterCycles,
         Slip::EnterState,
+        Slip::EnterCountsLost,
         Slip::EnterActive,
         Slip::EnterHolder,
     ];
 
-    pub const OF_EXITS: [Slip; 5] = [
+    pub const OF_EXITS: [Slip; 6] = [
         Slip::ExitNumber,
         Slip::ExitCycles,
         Slip::ExitState,
+        Slip::ExitCountsLost,
         Slip::ExitActive,
         Slip::ExitHolder,
     ];
 
-    pub const OF_LISTS: [Slip; 12] = [
+    pub const OF_LISTS: [Slip; 14] = [
         Slip::SimulateNumber,
         Slip::SimulateId,
         Slip::SimulateCycles,
         Slip::SimulateState,
+        Slip::SimulateDropped,
+        Slip::SimulateCountsLost,
         Slip::SimulateActive,
         Slip::SimulateHolder,
         Slip::SimulateTable,
@@ -196,6 +206,7 @@ unsafe extern "C" fn __wrap_psic_enter(
             Some(Slip::EnterId) => return packed + (1 << 8),
             Some(Slip::EnterCycles) => return packed + (1 << 24),
             Some(Slip::EnterState) => flip_last(state),
+            Some(Slip::EnterCountsLost) => put_counts(state, &NO_COUNTS),
             Some(Slip::EnterActive) => flip_word(active, active_len),
             Some(Slip::EnterHolder) => flip_word(holder, holder_len),
             _ => {}
@@ -226,6 +237,7 @@ unsafe extern "C" fn __wrap_psic_exit(
             Some(Slip::ExitNumber) => return packed + 8,
             Some(Slip::ExitCycles) => return packed + (1 << 24),
             Some(Slip::ExitState) => flip_last(state),
+            Some(Slip::ExitCountsLost) => put_counts(state, &NO_COUNTS),
             Some(Slip::ExitActive) => flip_word(active, active_len),
             Some(Slip::ExitHolder) => flip_word(holder, holder_len),
             _ => {}
@@ -251,6 +263,7 @@ unsafe extern "C" fn __wrap_psic_simulate(
 ) -> u64 {
     // SAFETY: the arguments are passed on as they came; the buffers of a call that took some are a simulation's, and theirs.
     unsafe {
+        let counts = counts_of(state, state_len);
         let taken = __real_psic_simulate(
             state,
             state_len,
@@ -273,6 +286,7 @@ unsafe extern "C" fn __wrap_psic_simulate(
             let unsound = *answers == 1;
             let (active, holder) = ((active, active_len), (holder, holder_len));
             alter_answers(answers, taken as usize, ended);
+            alter_counts(state, &counts, unsound);
             alter_memory(state, active, holder, (table, table_len), unsound);
         }
         taken
@@ -297,6 +311,22 @@ unsafe fn alter_answers(answers: *mut u8, taken: usize, ended: bool) {
             Some(Slip::SimulateNumberOfUnsoundStart) if *answers == 1 && taken > 1 => {
                 *answers.add(ANSWER_SIZE) = 0
             }
+            _ => {}
+        }
+    }
+}
+
+/// Alters the counts after a list, whose start had these and was sound or not.
+///
+/// # Safety
+///
+/// The pointer is to a state's buffer, which nobody else uses meanwhile.
+unsafe fn alter_counts(state: *mut u8, before: &Counts, unsound: bool) {
+    // SAFETY: as above.
+    unsafe {
+        match slip() {
+            Some(Slip::SimulateDropped) => put_counts(state, before),
+            Some(Slip::SimulateCountsLost) if !unsound => put_counts(state, &NO_COUNTS),
             _ => {}
         }
     }

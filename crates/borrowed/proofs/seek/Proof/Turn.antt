@@ -80,8 +80,8 @@ module _
   in-keys : i < length (f .keys)
   in-keys = omega (arith, below, read-inside (length l), f .filling .whole)
 
-  by-8 : i * 8 < 2 ^ 64
-  by-8 = omega (arith, in-list, room .1)
+  by-10 : i * 10 < 2 ^ 64
+  by-10 = omega (arith, in-list, room .1)
 
   by-4 : i * 4 < 2 ^ 64
   by-4 = omega (arith, in-keys, f .filling .whole)
@@ -99,9 +99,9 @@ module _
       fills ! 18 refl (bin ! (local ! 20 refl) (field-of ! 23 refl (sub ! 1 refl (whole !))) tt) (tt, tt) $
       rewrite ! 18 (λ (t : Bool). ‵ (fat fullShare tyBool (B .l₆) 0 (vbool t))) test refl $ stays ! (local ! 18 refl) $
       -- list[i] is copied into _10
-      fills ! 14 refl (bin ! (local ! 20 refl) (lit ! tt) (record { fits = by-8 })) (tt, record { fits = by-8 }) $
+      fills ! 14 refl (bin ! (local ! 20 refl) (lit ! tt) (record { fits = by-10 })) (tt, record { fits = by-10 }) $
       fills ! 12 refl (bin ! (field-of ! 27 refl (sub ! 0 refl (whole !))) (local ! 14 refl) tt) (tt, tt) $
-      rewrite ! 12 (λ (p : ℕ). ‵ (fat fullShare tyPtr (B .l₉) 0 (vptr b p))) (sym (place-is 8 o i)) refl $
+      rewrite ! 12 (λ (p : ℕ). ‵ (fat fullShare tyPtr (B .l₉) 0 (vptr b p))) (sym (place-is 10 o i)) refl $
       move ! (1 ∷ []) $
       elem-out ! So.the-row (Is So.the-row) (shows 𝓤 H A So.the-row) sources (LL.tells So.the-type So′.the-laws)
       q′ l i noSource b o in-list (λ g.
