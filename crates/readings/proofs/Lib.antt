@@ -20,6 +20,7 @@
 --   Changed         along changes, blocks and times
 --   Followed        a derived text shows neither 11 nor 12
 --   Grammar         both
+--   Chunks          a text in chunks is one reading
 pub mod Lists
 pub mod Codes
 pub mod Cutting
@@ -42,3 +43,4 @@ pub mod Following
 pub mod Changed
 pub mod Followed
 pub mod Grammar
+pub mod Chunks
