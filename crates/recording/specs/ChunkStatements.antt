@@ -3,13 +3,18 @@
 use Prim.Native.Nat.{ℕ, _^_, _<_, _≤_}
 use mathlib.Core.Path.{_≡_}
 use mathlib.Core.List.{List, [], _∷_, _++_}
-use mathlib.Core.Bool.{Bool, true, cond}
+use mathlib.Core.Bool.{true, not, _&&_, cond}
 use lib.ListN.{length}
+use lib.Dec.{ltb}
 use Rattle.lists.specs.Rows.{joined}
 use Rattle.model.specs.declared.Command.{Command}
+use Rattle.recording.specs.declared.Signal.{Signal}
+use Rattle.recording.specs.declared.Variable.{Variable}
 use Rattle.recording.specs.declared.Reader.{Reader}
-use Rattle.recording.specs.Words.{wordWith}
+use Rattle.recording.specs.Words.{all, separator, wordWith}
+use Rattle.recording.specs.Records.{variable}
 use Rattle.recording.specs.Reading.{isGood, readWord, Reading, readingWith, reading, timesOf}
+use Rattle.recording.specs.Carrying.{isCarried, carriedBytes, carriedFrom}
 use Rattle.recording.specs.Chunks.{mostKept, keptAfter, kept, Carried, begun, isOver, Fed, nothingFed, feed, feedAll, endText, chunked}
 
 -- The chunks as one text.
@@ -53,3 +58,33 @@ abbrev pub CutAnywhere : Type 0
 CutAnywhere =
     (c : Carried) →
     (feed c [] ≡ nothingFed c) × ((chunks : List (List ℕ)) → feedAll c chunks ≡ feed c (wholeText chunks))
+
+-- ---- bytes
+
+-- What fits the bytes: numbers of 8, 16, 32 and 64 bits, and a word of at most 256 bytes that has no separator.
+pub record VariableFits (v : Variable) : Type 0 where
+  pub code : v .code < 2 ^ 32
+  pub width : v .width < 2 ^ 8
+  pub number : v .value .number < 2 ^ 16
+
+pub record ReaderFits (r : Reader) : Type 0 where
+  pub width : r .pending .width < 2 ^ 8
+  pub code : r .pending .code < 2 ^ 32
+  pub vector-length : r .pending .vector .length < 2 ^ 8
+  pub vector-number : r .pending .vector .value .number < 2 ^ 16
+  pub variables : (s : Signal) → VariableFits (variable r s)
+  pub time : r .stamp .time < 2 ^ 64
+  pub taken : r .taken < 2 ^ 16
+  pub number : r .fault .number < 2 ^ 8
+  pub offset : r .fault .offset < 2 ^ 64
+
+pub record CarriedFits (c : Carried) : Type 0 where
+  pub reader : ReaderFits (c .reader)
+  pub taken : c .taken < 2 ^ 64
+  pub from : c .from < 2 ^ 64
+  pub length-le : length (c .word) ≤ mostKept
+  pub bytes : all (λ b. ltb b 256 && not (separator b)) (c .word) ≡ true
+
+-- It is read back from its bytes, and they are its bytes.
+abbrev pub CarriedReadBack : Type 0
+CarriedReadBack = (c : Carried) → CarriedFits c → (isCarried (carriedBytes c) ≡ true) × (carriedFrom (carriedBytes c) ≡ c)

@@ -6,6 +6,7 @@
 --   Stamps        the end of a stamp: the command that is taken, faults 13 and 19
 --   Reading       what each word does at its place, the end of the text, and the whole reading
 --   Chunks        a text in chunks, with what is carried between them
+--   Carrying      what is carried between them, as bytes
 --   Replay        the replay from a fresh controller
 --   Writing       the text that is written of a run of commands
 --   Calls         what the calls for hosts answer and write
@@ -24,6 +25,7 @@ pub mod Declarations
 pub mod Stamps
 pub mod Reading
 pub mod Chunks
+pub mod Carrying
 pub mod Replay
 pub mod Writing
 pub mod Calls
