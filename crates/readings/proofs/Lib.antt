@@ -20,6 +20,9 @@
 --   Changed         along changes, blocks and times
 --   Followed        a derived text shows neither 11 nor 12
 --   Grammar         both
+--   Spells          runs of digits that spell the same
+--   Alike           long words that mean the same
+--   Kept            a word of which at most 256 bytes are carried means the same as the whole word
 --   Chunks          a text in chunks is one reading
 pub mod Lists
 pub mod Codes
@@ -43,4 +46,7 @@ pub mod Following
 pub mod Changed
 pub mod Followed
 pub mod Grammar
+pub mod Spells
+pub mod Alike
+pub mod Kept
 pub mod Chunks
