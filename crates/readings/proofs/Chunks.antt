@@ -1,4 +1,5 @@
--- A text in chunks is one reading (`OverRepeats`, `EndIsOver`, `CutAnywhere`; `ChunksAreOne` from `KeptMeansSame`). Assumes nothing.
+-- A text in chunks is one reading (`ChunksAreOne`), wherever it is cut (`CutAnywhere`); after a fault or the end calls repeat it
+-- (`OverRepeats`, `EndIsOver`). Assumes nothing.
 --   feed-joined    a chunk that is cut in two
 --   kept-next      what is carried of a word with one more byte
 --   Reads          what was fed, with the word under way ended, is the reading of some words
@@ -28,6 +29,7 @@ use Rattle.recording.specs.ChunkStatements.{wholeText, KeptMeansSame, toldBy, C
 use Rattle.readings.proofs.Cutting.{readWords-commands}
 use Rattle.readings.proofs.Final.{bad-word, bad-finish, advance-only, bad-words, bad-finished, bad-answered}
 use Rattle.readings.proofs.Rising.{bad-times}
+use Rattle.readings.proofs.Kept.{kept-means-same}
 
 -- ---- after a fault or the end
 
@@ -321,9 +323,9 @@ module _ (f : Fed) (n : ℕ) (ws : List Word) (h : Reads f start n ws) where
       go (on good) = good-says good
       go (off bad) = bad-says bad
 
-pub chunks-are-one-by : KeptMeansSame → ChunksAreOne
+pub chunks-are-one : ChunksAreOne
 unfolding chunked reading timesOf keptAfter
-chunks-are-one-by same chunks l =
+chunks-are-one chunks l =
     let t = wholeText chunks in
     subst (λ (f : Fed). Says (thenFed f (endText (f .carried))) (length t) (words t)) (sym (feed-all begun chunks))
-    (says (feed begun t) (length t) (words t) (fed-reads same t start 0 0 [] (length t) refl (omega arith) (omega (arith, l))))
+    (says (feed begun t) (length t) (words t) (fed-reads kept-means-same t start 0 0 [] (length t) refl (omega arith) (omega (arith, l))))
