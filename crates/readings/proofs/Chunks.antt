@@ -1,5 +1,5 @@
 -- A text in chunks is one reading (`ChunksAreOne`), wherever it is cut (`CutAnywhere`); after a fault or the end calls repeat it
--- (`OverRepeats`, `EndIsOver`). Assumes nothing.
+-- (`OverRepeats`, `EndIsOver`), and a byte too many is one (`ByteTooMany`). Assumes nothing.
 --   feed-joined    a chunk that is cut in two
 --   kept-next      what is carried of a word with one more byte
 --   Reads          what was fed, with the word under way ended, is the reading of some words
@@ -11,7 +11,7 @@ use mathlib.Core.Bool.{Bool, true, false, not, _&&_, _||_, cond}
 use native.Mathlib.Omega.{arith}
 use lib.ListN.{length, length-append, take, drop}
 use lib.Dec.{ltb}
-use borrow.Author.Tests.{lt-ltb}
+use borrow.Author.Tests.{lt-ltb, le-ltb}
 use Rattle.lists.specs.Rows.{joined}
 use Rattle.lists.proofs.Bools.{Flag, on, off, flag, or-in-r, not-in, clash}
 use Rattle.recording.specs.declared.Reader.{Reader}
@@ -24,8 +24,9 @@ use Rattle.recording.specs.Reading.{isGood, isVector, readWord, finish, Progres
 use Rattle.recording.specs.Reading.{answered, reading, timesAt, timesFrom, timesOf}
 use Rattle.recording.specs.Chunks.{mostKept, isBinary, leadsZero, endingIn, heldBits, heldDigits, keptWith, keptAfter, kept, Carried}
 use Rattle.recording.specs.Chunks.{carriedWith, begun, mostBytes, isOver, Fed, fedWith, nothingFed, thenFed, gives, closing}
-use Rattle.recording.specs.Chunks.{takeByte, feed, feedAll, atEnd, endText, chunked}
-use Rattle.recording.specs.ChunkStatements.{wholeText, KeptMeansSame, toldBy, ChunksAreOne, OverRepeats, EndIsOver, CutAnywhere}
+use Rattle.recording.specs.Chunks.{tooLong, takeByte, feed, feedAll, atEnd, endText, chunked}
+use Rattle.recording.specs.ChunkStatements.{wholeText, KeptMeansSame, toldBy, ChunksAreOne, OverRepeats, EndIsOver, ByteTooMany}
+use Rattle.recording.specs.ChunkStatements.{CutAnywhere}
 use Rattle.readings.proofs.Cutting.{readWords-commands}
 use Rattle.readings.proofs.Final.{bad-word, bad-finish, advance-only, bad-words, bad-finished, bad-answered}
 use Rattle.readings.proofs.Rising.{bad-times}
@@ -45,6 +46,17 @@ over-feed c (b ∷ bs) o = ap (λ (f : Fed). thenFed f (feed (f .carried) bs)) (
 over-end : (c : Carried) → isOver c ≡ true → endText c ≡ nothingFed c
 unfolding endText
 over-end c o = rw o
+
+-- ---- a byte too many
+
+over-long : (c : Carried) (b : ℕ) → isOver c ≡ false → c .taken ≡ mostBytes → takeByte c b ≡ nothingFed (tooLong c)
+unfolding takeByte
+over-long c b going full = rw (going, le-ltb (c .taken) mostBytes (omega (arith, full)))
+
+pub byte-too-many : ByteTooMany
+unfolding feed
+byte-too-many c b bs going full =
+    ap toldBy (ap (λ (f : Fed). thenFed f (feed (f .carried) bs)) (over-long c b going full) ∙ over-feed (tooLong c) bs refl)
 
 open-end : (c : Carried) → isOver c ≡ false → endText c ≡ thenFed (gives (c .reader) (closing c) c) (atEnd c (closing c))
 unfolding endText

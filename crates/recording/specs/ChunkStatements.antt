@@ -1,9 +1,9 @@
 -- What is claimed of texts in chunks. Propositions only. Assumes nothing.
 -- Source: document 02, 8/14, in its order.
-use Prim.Native.Nat.{ℕ, _^_, _<_, _≤_}
+use Prim.Native.Nat.{ℕ, _-_, _^_, _<_, _≤_}
 use mathlib.Core.Path.{_≡_}
 use mathlib.Core.List.{List, [], _∷_, _++_}
-use mathlib.Core.Bool.{true, not, _&&_, cond}
+use mathlib.Core.Bool.{true, false, not, _&&_, cond}
 use lib.ListN.{length}
 use lib.Dec.{ltb}
 use Rattle.lists.specs.Rows.{joined}
@@ -52,6 +52,13 @@ OverRepeats =
 -- The end is told once: after it everything is over.
 abbrev pub EndIsOver : Type 0
 EndIsOver = (c : Carried) → isOver ((endText c) .carried) ≡ true
+
+-- "A byte after the first 2^64 - 1 is 11, at its offset", unless a fault came before; no command is given, and a word under way isn't
+-- judged.
+abbrev pub ByteTooMany : Type 0
+ByteTooMany =
+    (c : Carried) (b : ℕ) (bs : List ℕ) → isOver c ≡ false → c .taken ≡ 2 ^ 64 - 1 →
+    toldBy (feed c (b ∷ bs)) ≡ readingWith [] 11 (2 ^ 64 - 1)
 
 -- "With nothing in a chunk": it changes nothing. And how a text is cut doesn't matter, to the byte.
 abbrev pub CutAnywhere : Type 0

@@ -14,6 +14,7 @@
 --   Grammar       the grammar as derivations, beside the reading
 --   Texts         worked texts, with what each of them says
 --   CallTexts     worked texts of the times, of the replay and of the calls
+--   ChunkTexts    worked texts in chunks
 --   WrittenTexts  worked texts as they are written, and of the call that writes them
 --   Statements    what is claimed of readings and replays, as propositions; their proofs are in the crates above this one
 --   ChunkStatements      what is claimed of texts in chunks
@@ -36,4 +37,5 @@ pub mod CallTexts
 pub mod WrittenTexts
 pub mod Statements
 pub mod ChunkStatements
+pub mod ChunkTexts
 pub mod WritingStatements
