@@ -24,6 +24,7 @@
 --   Alike           long words that mean the same
 --   Kept            a word of which at most 256 bytes are carried means the same as the whole word
 --   Chunks          a text in chunks is one reading
+--   Moved           words that stand further on are read alike, but for the offset of a fault
 pub mod Lists
 pub mod Codes
 pub mod Cutting
@@ -50,3 +51,4 @@ pub mod Spells
 pub mod Alike
 pub mod Kept
 pub mod Chunks
+pub mod Moved
