@@ -663,17 +663,17 @@ pub begun-fits : CarriedFits begun
 begun-fits =
     record {
       reader = fitting start
-      (record {
-        width = omega arith;
-        code = omega arith;
-        vector-length = omega arith;
-        vector-number = omega arith;
-        variables = zeros;
-        time-lt = omega arith;
-        taken-lt = omega arith;
-        number = omega arith;
-        offset = omega arith;
-      });
+          (record {
+            width = omega arith;
+            code = omega arith;
+            vector-length = omega arith;
+            vector-number = omega arith;
+            variables = zeros;
+            time-lt = omega arith;
+            taken-lt = omega arith;
+            number = omega arith;
+            offset = omega arith;
+          });
       taken = omega arith;
       from = omega arith;
       length-le = omega arith;

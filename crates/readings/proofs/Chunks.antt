@@ -24,7 +24,7 @@ use Rattle.recording.specs.Reading.{isGood, isVector, readWord, finish, Progres
 use Rattle.recording.specs.Reading.{answered, reading, timesAt, timesFrom, timesOf}
 use Rattle.recording.specs.Chunks.{mostKept, isBinary, leadsZero, endingIn, heldBits, heldDigits, keptWith, keptAfter, kept, Carried}
 use Rattle.recording.specs.Chunks.{carriedWith, begun, mostBytes, isOver, Fed, fedWith, nothingFed, thenFed, gives, closing}
-use Rattle.recording.specs.Chunks.{tooLong, takeByte, feed, feedAll, atEnd, endText, chunked}
+use Rattle.recording.specs.Chunks.{placeIn, between, tooLong, takeByte, feed, feedAll, atEnd, endText, chunked}
 use Rattle.recording.specs.ChunkStatements.{wholeText, KeptMeansSame, toldBy, ChunksAreOne, OverRepeats, EndIsOver, ByteTooMany}
 use Rattle.recording.specs.ChunkStatements.{CutAnywhere}
 use Rattle.readings.proofs.Cutting.{readWords-commands}
@@ -236,11 +236,12 @@ module _ (same : KeptMeansSame) where
   -- one more byte
   module _ (r : Reader) (at from : ℕ) (w : List ℕ) (b : ℕ) (g : isGood r ≡ true) (fits : ltb at mostBytes ≡ true) where
     at-separator : Begins at from w → separator b ≡ true →
-        takeByte (carrying r at from w) b ≡ gives r (ended r at w) (carrying ((ended r at w) .reader) (suc at) (suc at) [])
+        takeByte (carrying r at from w) b ≡
+        gives r (ended r at w) (between ((ended r at w) .reader) (placeIn ((ended r at w) .reader) (suc at)))
     unfolding takeByte keptAfter
     at-separator e s =
         rw (g, fits, s)
-        (ap (λ (x : Read). gives r x (carriedWith (x .reader) (suc at) (suc at) [] false)) (closing-ended r at from w e))
+        (ap (λ (x : Read). gives r x (between (x .reader) (placeIn (x .reader) (suc at)))) (closing-ended r at from w e))
 
     at-byte : separator b ≡ false →
         takeByte (carrying r at from w) b ≡ nothingFed (carrying r (suc at) (cond (isEmpty (kept w)) at from) (w ++ (b ∷ [])))
@@ -251,7 +252,7 @@ module _ (same : KeptMeansSame) where
 
   fed-reads : (bs : List ℕ) (r : Reader) (at from : ℕ) (w : List ℕ) (n : ℕ) → Begins at from w → at + length bs ≡ n → n ≤ mostBytes →
       Reads (feed (carrying r at from w) bs) r n (cut at w bs)
-  unfolding feed cut readWords timesFrom
+  unfolding feed cut readWords timesFrom keptAfter
   fed-reads [] r at from w n e l m =
       let c = closing-ended r at from w e in
       record {
@@ -271,7 +272,13 @@ module _ (same : KeptMeansSame) where
       c = carrying r at from w
 
       parted : Carried
-      parted = carrying (a .reader) (suc at) (suc at) []
+      parted = between (a .reader) (placeIn (a .reader) (suc at))
+
+      -- by what is read from the next byte on; with a fault nothing is
+      parted-reads : Flag (isGood (a .reader)) → Reads (feed (between (a .reader) (suc at)) bs) (a .reader) n (cut (suc at) [] bs) →
+          Reads (feed parted bs) (a .reader) n (cut (suc at) [] bs)
+      parted-reads (on g) p = rw g p
+      parted-reads (off bad) p = bad-reads parted bs n (cut (suc at) [] bs) bad refl
 
       longer : Carried
       longer = carrying r (suc at) (cond (isEmpty (kept w)) at from) (w ++ (b ∷ []))
@@ -279,11 +286,12 @@ module _ (same : KeptMeansSame) where
       fits : ltb at mostBytes ≡ true
       fits = lt-ltb at mostBytes (omega (arith, l))
 
-      go : Flag (isGood r) → Flag (separator b) → Reads (feed parted bs) (a .reader) n (cut (suc at) [] bs) →
+      go : Flag (isGood r) → Flag (separator b) → Reads (feed (between (a .reader) (suc at)) bs) (a .reader) n (cut (suc at) [] bs) →
           Reads (feed longer bs) r n (cut (suc at) (w ++ (b ∷ [])) bs) → Reads (feed c (b ∷ bs)) r n (cut at w (b ∷ bs))
       go (off bad) s p q = bad-reads c (b ∷ bs) n (cut at w (b ∷ bs)) bad refl
       go (on g) (on s) p q =
-          rw (at-separator r at from w b g fits e s, s) (reads-closed r at w (feed parted bs) n (cut (suc at) [] bs) parted p)
+          rw (at-separator r at from w b g fits e s, s)
+          (reads-closed r at w (feed parted bs) n (cut (suc at) [] bs) parted (parted-reads (flag (isGood (a .reader))) p))
       go (on g) (off s) p q = rw (at-byte r at from w b g fits s, s) q
 
 -- ---- the end

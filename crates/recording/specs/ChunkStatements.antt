@@ -15,7 +15,7 @@ use Rattle.recording.specs.Words.{all, separator, wordWith}
 use Rattle.recording.specs.Records.{variable}
 use Rattle.recording.specs.Reading.{isGood, readWord, Reading, readingWith, reading, timesOf}
 use Rattle.recording.specs.Carrying.{isCarried, carriedBytes, carriedFrom}
-use Rattle.recording.specs.Chunks.{mostKept, keptAfter, kept, Carried, begun, isOver, Fed, nothingFed, feed, feedAll, endText, chunked}
+use Rattle.recording.specs.Chunks.{mostKept, kept, Carried, isOver, Fed, nothingFed, placeIn, feed, feedAll, endText, chunked}
 
 -- The chunks as one text.
 abbrev pub wholeText : List (List ℕ) → List ℕ
@@ -36,7 +36,7 @@ KeptMeansSame = (r : Reader) (at : ℕ) (w : List ℕ) → readWord r (wordWith 
 abbrev pub toldBy : Fed → Reading
 toldBy f =
     readingWith (f .commands) (f .carried .reader .fault .number)
-    (cond (isGood (f .carried .reader)) (f .carried .taken) (f .carried .reader .fault .offset))
+    (placeIn (f .carried .reader) (f .carried .taken))
 
 -- "Wherever it is cut .. commands, refusal and the refusal's place in the whole text are those of one reading", and the times.
 abbrev pub ChunksAreOne : Type 0

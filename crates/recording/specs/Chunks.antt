@@ -111,8 +111,16 @@ gives r a c = fedWith c (commandsOf (a .strobe)) (timesAt r a)
 unfoldable pub closing : Carried → Read
 closing c = cond (isEmpty (c .word)) (only (c .reader)) (readWord (c .reader) (wordWith (c .from) (c .word)))
 
+-- The bytes taken, and after a fault its place.
+abbrev pub placeIn : Reader → ℕ → ℕ
+placeIn r n = cond (isGood r) n (r .fault .offset)
+
+-- No word is under way, at a place.
+abbrev pub between : Reader → ℕ → Carried
+between r n = carriedWith r n n [] false
+
 abbrev pub endWord : Carried → Fed
-endWord c = gives (c .reader) (closing c) (carriedWith ((closing c) .reader) (suc (c .taken)) (suc (c .taken)) [] false)
+endWord c = gives (c .reader) (closing c) (between ((closing c) .reader) (placeIn ((closing c) .reader) (suc (c .taken))))
 
 abbrev pub withByte : Carried → ℕ → Carried
 withByte c b =
