@@ -25,7 +25,8 @@
 --   Kept            a word of which at most 256 bytes are carried means the same as the whole word
 --   Chunks          a text in chunks is one reading
 --   Moved           words that stand further on are read alike, but for the offset of a fault
---   Carrying        what is carried between chunks is read back from its bytes
+--   Fitting         a reader's numbers fit their bytes
+--   Carrying        what is carried between chunks is read back from its bytes, and fits them again
 pub mod Lists
 pub mod Codes
 pub mod Cutting
@@ -53,4 +54,5 @@ pub mod Alike
 pub mod Kept
 pub mod Chunks
 pub mod Moved
+pub mod Fitting
 pub mod Carrying
