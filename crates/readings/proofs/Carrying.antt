@@ -4,7 +4,7 @@
 --   reader-back             a reader read from the bytes in front
 --   carried-octets          its bytes are bytes
 --   kept-fits               a word under way with one more byte
---   feed-fits, end-fits     what a chunk, and the end, leaves
+--   carried-fits-on         what a chunk, and the end, leaves fits again
 use Prim.Native.Nat.{ℕ, zero, suc, _+_, _*_, _-_, _/_, _%_, _^_, _<_, _≤_}
 use mathlib.Core.Path.{_≡_, refl, sym}
 use mathlib.Core.List.{List, [], _∷_, _++_}
@@ -35,7 +35,7 @@ use Rattle.recording.specs.Chunks.{isOver, nothingFed, thenFed, gives, closing,
 use Rattle.recording.specs.Chunks.{endText}
 use Rattle.recording.specs.Carrying.{placeNumber, lastPlace, placeOf, variableBytes, variableFrom, readerBytes, readerFrom, carriedSize}
 use Rattle.recording.specs.Carrying.{endedAt, lengthAt, lowBytes, carriedBytes, wordFrom, carriedFrom, readerFlags, isCarried}
-use Rattle.recording.specs.ChunkStatements.{VariableFits, ReaderFits, CarriedFits, CarriedReadBack}
+use Rattle.recording.specs.ChunkStatements.{VariableFits, ReaderFits, CarriedFits, CarriedReadBack, CarriedFitsOn}
 use Rattle.readings.proofs.Fitting.{start-fits, word-fits, finish-fits, refused-fits}
 
 -- ---- numbers and places
@@ -181,9 +181,6 @@ module _ (c : Carried) (h : CarriedFits c) where
       (le-leb (wordAt (carriedBytes c) lengthAt) mostKept (omega (arith, word-back (length (c .word)), h .length-le))))
       (rw word-there (without-separator (c .word) (h .bytes)))
 
-pub carried-read-back : CarriedReadBack
-carried-read-back c h = (encoded c h, back c h)
-
 -- ---- each is a byte
 
 octets-low : (k x : ℕ) {l : List ℕ} → Octets l → Octets (lowBytes k x ++ l)
@@ -218,7 +215,7 @@ octets-zeros : (n : ℕ) → Octets (replicate n 0)
 octets-zeros zero = none
 octets-zeros (suc n) = next {x = 0} (omega arith) (octets-zeros n)
 
-pub carried-octets : (c : Carried) → CarriedFits c → AreBytes (carriedBytes c)
+carried-octets : (c : Carried) → CarriedFits c → AreBytes (carriedBytes c)
 unfolding carriedBytes
 carried-octets c h =
     are-bytes
@@ -226,6 +223,9 @@ carried-octets c h =
     (octets-flag (c .ended) (octets-low 8 (c .taken) (octets-low 8 (c .from)
     (octets-word {x = length (c .word)} (omega (arith, h .length-le))
     (octets-append (octets-plain (c .word) (h .bytes)) (octets-zeros (mostKept - length (c .word)))))))))
+
+pub carried-read-back : CarriedReadBack
+carried-read-back c h = (encoded c h, back c h, carried-octets c h)
 
 -- ---- a word under way
 
@@ -352,13 +352,13 @@ module _ (c : Carried) (h : CarriedFits c) where
       go false true e true f = end-word-fits (ltb-true (c .taken) mostBytes e)
       go false true e false f = with-byte-fits (ltb-true (c .taken) mostBytes e) b (and-in k (not-in f))
 
-pub feed-fits : (c : Carried) (bs : List ℕ) → CarriedFits c → all (λ b. ltb b 256) bs ≡ true → CarriedFits ((feed c bs) .carried)
+feed-fits : (c : Carried) (bs : List ℕ) → CarriedFits c → all (λ b. ltb b 256) bs ≡ true → CarriedFits ((feed c bs) .carried)
 unfolding feed
 feed-fits c [] h e = h
 feed-fits c (b ∷ bs) h e =
     feed-fits ((takeByte c b) .carried) bs (byte-fits c h b (and-l (ltb b 256) _ e)) (and-r (ltb b 256) _ e)
 
-pub end-fits : (c : Carried) → CarriedFits c → CarriedFits ((endText c) .carried)
+end-fits : (c : Carried) → CarriedFits c → CarriedFits ((endText c) .carried)
 unfolding endText
 end-fits c h = go (isOver c)
   where
@@ -376,5 +376,8 @@ end-fits c h = go (isOver c)
           bytes = refl;
         }
 
-pub begun-fits : CarriedFits begun
+begun-fits : CarriedFits begun
 begun-fits = record { reader = start-fits; taken = omega arith; from = omega arith; length-le = omega arith; bytes = refl }
+
+pub carried-fits-on : CarriedFitsOn
+carried-fits-on = (begun-fits, feed-fits, end-fits)

@@ -7,6 +7,7 @@ use mathlib.Core.Bool.{true, false, not, _&&_, cond}
 use lib.ListN.{length}
 use lib.Dec.{ltb}
 use Rattle.lists.specs.Rows.{joined}
+use Rattle.layout.specs.Statements.{AreBytes}
 use Rattle.model.specs.declared.Command.{Command}
 use Rattle.recording.specs.declared.Signal.{Signal}
 use Rattle.recording.specs.declared.Variable.{Variable}
@@ -15,7 +16,7 @@ use Rattle.recording.specs.Words.{all, separator, wordWith}
 use Rattle.recording.specs.Records.{variable}
 use Rattle.recording.specs.Reading.{isGood, readWord, Reading, readingWith, reading, timesOf}
 use Rattle.recording.specs.Carrying.{isCarried, carriedBytes, carriedFrom}
-use Rattle.recording.specs.Chunks.{mostKept, kept, Carried, isOver, Fed, nothingFed, placeIn, feed, feedAll, endText, chunked}
+use Rattle.recording.specs.Chunks.{mostKept, kept, Carried, begun, isOver, Fed, nothingFed, placeIn, feed, feedAll, endText, chunked}
 
 -- The chunks as one text.
 abbrev pub wholeText : List (List ℕ) → List ℕ
@@ -92,6 +93,15 @@ pub record CarriedFits (c : Carried) : Type 0 where
   pub length-le : length (c .word) ≤ mostKept
   pub bytes : all (λ b. ltb b 256 && not (separator b)) (c .word) ≡ true
 
--- It is read back from its bytes, and they are its bytes.
+-- It is read back from its bytes, which are bytes.
 abbrev pub CarriedReadBack : Type 0
-CarriedReadBack = (c : Carried) → CarriedFits c → (isCarried (carriedBytes c) ≡ true) × (carriedFrom (carriedBytes c) ≡ c)
+CarriedReadBack =
+    (c : Carried) → CarriedFits c →
+    (isCarried (carriedBytes c) ≡ true) × (carriedFrom (carriedBytes c) ≡ c) × AreBytes (carriedBytes c)
+
+-- What is carried from the start on fits, after every chunk of bytes and after the end.
+abbrev pub CarriedFitsOn : Type 0
+CarriedFitsOn =
+    CarriedFits begun ×
+    ((c : Carried) (bs : List ℕ) → CarriedFits c → all (λ b. ltb b 256) bs ≡ true → CarriedFits ((feed c bs) .carried)) ×
+    ((c : Carried) → CarriedFits c → CarriedFits ((endText c) .carried))
