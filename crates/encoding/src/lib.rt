@@ -39,7 +39,7 @@ struct Numbers {
     level: u16,
 }
 
-fn put_word(b: &mut [u8], i: usize, x: u16)
+pub fn put_word(b: &mut [u8], i: usize, x: u16)
     requires { ⌜ i + 1 < length (now b) ⌝ }
     ensures { λ r. ⌜ now (b .exit) ≡ sets (now (b .entry)) i (word x) ⌝ }
 {
@@ -47,7 +47,7 @@ fn put_word(b: &mut [u8], i: usize, x: u16)
     b[i + 1] = (x / 256) as u8;
 }
 
-fn flag_byte(x: bool) -> u8
+pub fn flag_byte(x: bool) -> u8
     ensures { λ r. ⌜ r ≡ flagByte x ⌝ }
 {
     if x { 1 } else { 0 }

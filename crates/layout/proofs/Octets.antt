@@ -40,7 +40,7 @@ octets-joined f d (x ∷ l) h = octets-append (h zero (omega arith)) (octets-joi
 pub octets-word : {x : ℕ} {l : List ℕ} → IsWord x → Octets l → Octets (x % 256 ∷ x / 256 ∷ l)
 octets-word {x} h o = next {x = x % 256} (omega arith) (next {x = x / 256} (omega arith) o)
 
-octets-flag : (x : Bool) {l : List ℕ} → Octets l → Octets (flagByte x ∷ l)
+pub octets-flag : (x : Bool) {l : List ℕ} → Octets l → Octets (flagByte x ∷ l)
 octets-flag true o = next {x = 1} (omega arith) o
 octets-flag false o = next {x = 0} (omega arith) o
 

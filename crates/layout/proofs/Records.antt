@@ -1,7 +1,7 @@
 -- One word, flag, source and core there and back. Assumes nothing.
---   word-back, source-back, core-back      read from the bytes that were written for it, it is the same
---   source-flagged, core-flagged           what was written for its flags are flags
---   word-part, source-part, core-part      written as it was read, its bytes are the same
+--   word-back, flag-back, source-back, core-back    read from the bytes that were written for it, it is the same
+--   is-flag, source-flagged, core-flagged           what was written for its flags are flags
+--   word-part, source-part, core-part               written as it was read, its bytes are the same
 use Prim.Native.Nat.{ℕ, zero, suc, _+_, _*_, _/_, _%_, _<_, _≤_}
 use mathlib.Core.Path.{_≡_, refl, _∙_, ap}
 use mathlib.Core.List.{List, [], _∷_, _++_}
@@ -23,11 +23,11 @@ use Rattle.layout.specs.Bytes.{coreFlags}
 pub word-back : (x : ℕ) → x % 256 + 256 * (x / 256) ≡ x
 word-back x = omega arith
 
-flag-back : (x : Bool) → eqb (flagByte x) 1 ≡ x
+pub flag-back : (x : Bool) → eqb (flagByte x) 1 ≡ x
 flag-back true = refl
 flag-back false = refl
 
-is-flag : (x : Bool) → leb (flagByte x) 1 ≡ true
+pub is-flag : (x : Bool) → leb (flagByte x) 1 ≡ true
 is-flag true = refl
 is-flag false = refl
 

@@ -22,7 +22,8 @@ use Rattle.model.specs.WellFormed.{candidatesSettled, coveredSettled, fr
 use Rattle.model.specs.Settling.{retract, deliver, firstDirty, arbitrate, next, cycle, settle, countOf, cyclesOf}
 use Rattle.model.specs.Commands.{effect, refusalOf, refusal, answeredId, settled, refused, execute, run}
 use Rattle.lists.specs.Rows.{gather}
-use Rattle.model.specs.Cases.{numbered, start, setUp, answersAs, passes, allPass, marked, further, apart, asked, allCounted, dropCases}
+use Rattle.model.specs.Cases.{numbered, start, setUp, answersAs, passes, allPass, marked, further, apart, asked, allCounted}
+use Rattle.model.specs.Cases.{dropCases}
 
 -- To open this name is to open every definition that a run computes with.
 unfoldable pub computed : Controller → List Command → Controller

@@ -31,7 +31,7 @@ pub bad-finish : (n : ℕ) (r : Reader) → isGood r ≡ false → finish n r �
 unfolding finish
 bad-finish n r bad = rw bad
 
-advance-only : (p : Progress) → advance (p .commands) (only (p .reader)) ≡ p
+pub advance-only : (p : Progress) → advance (p .commands) (only (p .reader)) ≡ p
 unfolding advance commandsOf
 advance-only p = ap (progress (p .reader)) (append-nil (p .commands))
 
@@ -46,7 +46,7 @@ pub bad-finished : (n : ℕ) (p : Progress) → isGood (p .reader) ≡ false →
 unfolding finished
 bad-finished n p bad = ap (advance (p .commands)) (bad-finish n (p .reader) bad) ∙ advance-only p
 
-bad-answered : (n : ℕ) (p : Progress) → isGood (p .reader) ≡ false →
+pub bad-answered : (n : ℕ) (p : Progress) → isGood (p .reader) ≡ false →
     answered n p ≡ readingWith (p .commands) (p .reader .fault .number) (p .reader .fault .offset)
 unfolding answered
 bad-answered n p bad = ap (λ (b : Bool). readingWith (p .commands) (p .reader .fault .number) (cond b n (p .reader .fault .offset))) bad

@@ -20,6 +20,13 @@
 --   Changed         along changes, blocks and times
 --   Followed        a derived text shows neither 11 nor 12
 --   Grammar         both
+--   Spells          runs of digits that spell the same
+--   Alike           long words that mean the same
+--   Kept            a word of which at most 256 bytes are carried means the same as the whole word
+--   Chunks          a text in chunks is one reading
+--   Moved           words that stand further on are read alike, but for the offset of a fault
+--   Fitting         a reader's numbers fit their bytes
+--   Carrying        what is carried between chunks is read back from its bytes, and fits them again
 pub mod Lists
 pub mod Codes
 pub mod Cutting
@@ -42,3 +49,10 @@ pub mod Following
 pub mod Changed
 pub mod Followed
 pub mod Grammar
+pub mod Spells
+pub mod Alike
+pub mod Kept
+pub mod Chunks
+pub mod Moved
+pub mod Fitting
+pub mod Carrying

@@ -18,7 +18,7 @@ use Rattle.recording.specs.Words.{Word}
 use Rattle.recording.specs.Stamps.{commandsOf}
 use Rattle.recording.specs.Reading.{isGood, readWord, finish, Progress, progress, advance, readWords, timesAt, timesFrom}
 use Rattle.readings.proofs.Cutting.{readWords-commands}
-use Rattle.readings.proofs.Final.{bad-word, bad-finish}
+use Rattle.readings.proofs.Final.{bad-word, bad-finish, bad-words}
 use Rattle.readings.proofs.Opening.{standing, word-aside, word-quiet, Opens, opens-later}
 use Rattle.readings.proofs.Limits.{strobe-most, word-opened}
 
@@ -39,11 +39,17 @@ to-end-more r w ws n =
     append-assoc (timesAt r a) (timesFrom (a .reader) ws) (timesAt (lastReader (a .reader) ws) (finish n (lastReader (a .reader) ws)))
 
 -- a reader with a fault gives none
-bad-times : (r : Reader) (ws : List Word) (n : ℕ) → isGood r ≡ false → timesToEnd r ws n ≡ []
-unfolding timesFrom readWords commandsOf
-bad-times r [] n b = ap (timesAt r) (bad-finish n r b)
-bad-times r (w ∷ ws) n b =
-    to-end-more r w ws n ∙ ap (λ (a : Read). timesAt r a ++ timesToEnd (a .reader) ws n) (bad-word r w b) ∙ bad-times r ws n b
+pub bad-times : (r : Reader) (ws : List Word) → isGood r ≡ false → timesFrom r ws ≡ []
+unfolding timesFrom commandsOf
+bad-times r [] b = refl
+bad-times r (w ∷ ws) b = ap (λ (a : Read). timesAt r a ++ timesFrom (a .reader) ws) (bad-word r w b) ∙ bad-times r ws b
+
+bad-to-end : (r : Reader) (ws : List Word) (n : ℕ) → isGood r ≡ false → timesToEnd r ws n ≡ []
+unfolding commandsOf
+bad-to-end r ws n b =
+    ap (λ (l : List ℕ). l ++ timesAt (lastReader r ws) (finish n (lastReader r ws))) (bad-times r ws b) ∙
+    ap (λ (p : Progress). timesAt (p .reader) (finish n (p .reader))) (bad-words (progress r []) ws b) ∙
+    ap (timesAt r) (bad-finish n r b)
 
 -- ---- rows of numbers
 
@@ -151,5 +157,5 @@ rises r [] n =
     subst (FromOn r) (append-nil (timesAt r (finish n r))) ((λ _. a), b)
 rises r (w ∷ ws) n =
     subst (FromOn r) (sym (to-end-more r w ws n))
-    (word-rises r w (timesToEnd ((readWord r w) .reader) ws n) (bad-times ((readWord r w) .reader) ws n)
+    (word-rises r w (timesToEnd ((readWord r w) .reader) ws n) (bad-to-end ((readWord r w) .reader) ws n)
     (rises ((readWord r w) .reader) ws n))

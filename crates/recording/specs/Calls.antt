@@ -1,5 +1,6 @@
 -- What the calls for hosts answer and write. Definitions only. Assumes nothing.
--- Source: requests 1/14 and 6/14. How many commands a text holds isn't known before it is read, so that room is asked for as many as there can be.
+-- Source: requests 1/14 and 6/14. How many commands a text holds isn't known before it is read, so that room is asked for as many as there
+-- can be.
 --   room t                         the commands that there is to be room for
 --   readCall t commands times      the commands of a reading, five bytes each, and their times, in the front of two lent buffers
 --   replayCall n m t b answers     the state after a replay in the lent bytes, and its answers, five bytes each, in the front of a buffer

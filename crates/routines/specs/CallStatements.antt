@@ -54,7 +54,8 @@ pub record Simulated (cs : List RoutineCall) (done : SimulateCall) : Type 0 wher
       getD (done .table) (maxCores * r + c) 0 ≡ min mostHandovers (handovers (eventsIn [] cs (done .answers)) r c)
   -- each source's count of dropped triggers
   pub dropped-is :
-      (i : ℕ) → (sourceAt (stateFrom (done .memory .bytes)) i) .dropped ≡ min mostDropped (droppedIn (eventsIn [] cs (done .answers)) (suc i))
+      (i : ℕ) →
+      (sourceAt (stateFrom (done .memory .bytes)) i) .dropped ≡ min mostDropped (droppedIn (eventsIn [] cs (done .answers)) (suc i))
 
 -- From what making writes, and a table of zeros.
 abbrev pub simulatedFresh : ℕ → ℕ → RoutineMemory → List ℕ → List ℕ → SimulateCall

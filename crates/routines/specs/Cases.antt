@@ -304,5 +304,7 @@ dropRuns =
     dropping (trigger 4 ∷ enter 0 ∷ trigger 4 ∷ []) 1 ∷
     -- entry, exit and a new trigger leave it, and so do 7, 9, 8, 4 and another source's
     dropping
-    (trigger 4 ∷ trigger 4 ∷ enter 0 ∷ enter 0 ∷ set-priority 4 9 ∷ exit 0 ∷ exit 0 ∷ trigger 4 ∷ trigger 33 ∷ trigger 5 ∷ trigger 5 ∷ []) 1 ∷
+    (trigger 4 ∷
+    trigger 4 ∷
+    enter 0 ∷ enter 0 ∷ set-priority 4 9 ∷ exit 0 ∷ exit 0 ∷ trigger 4 ∷ trigger 33 ∷ trigger 5 ∷ trigger 5 ∷ []) 1 ∷
     []

@@ -1,6 +1,6 @@
--- Demand 3, and the counts of dropped triggers, of a list run from a fresh controller's bytes (`RunStrict`): the bytes that making writes are those of the reset controller,
--- the entries read from the answers' bytes are those of the commands, and the state read from the bytes handed back is that after them, of
--- which the theorem over every list of commands speaks. Assumes nothing.
+-- Demand 3, and the counts of dropped triggers, of a list run from a fresh controller's bytes (`RunStrict`): the bytes that making writes
+-- are those of the reset controller, the entries read from the answers' bytes are those of the commands, and the state read from the bytes
+-- handed back is that after them, of which the theorems over every list of commands speak. Assumes nothing.
 use Prim.Native.Nat.{ℕ, _*_, _/_, _%_, _≤_}
 use mathlib.Core.Path.{_≡_, refl, sym, ap, _∙_, subst}
 use mathlib.Core.List.{List, [], _∷_}

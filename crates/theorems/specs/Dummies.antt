@@ -12,8 +12,8 @@ use Rattle.model.specs.declared.Cycle.the-variants.{Retract}
 use Rattle.model.specs.declared.Command.{Command}
 use Rattle.model.specs.declared.Command.the-variants.{OnSource, OnCore}
 use Rattle.model.specs.declared.SourceAction.the-variants.{SetSourcePriority, Mask, Unmask, Trigger, Redeliver, Complete}
-use Rattle.model.specs.Records.{coreId, indexOf, sourceAt, coreAt, withDelivered, withDropped, emptyBox, coreWith, controllerWith, withCores}
-use Rattle.model.specs.Records.{withSource, reset, answer}
+use Rattle.model.specs.Records.{coreId, indexOf, sourceAt, coreAt, withDelivered, withDropped, emptyBox, coreWith, controllerWith}
+use Rattle.model.specs.Records.{withCores, withSource, reset, answer}
 use Rattle.model.specs.Requests.{currentPriority}
 use Rattle.lists.specs.Walks.{some, walk}
 use Rattle.model.specs.Arbitration.{highest}

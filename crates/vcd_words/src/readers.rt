@@ -6,6 +6,7 @@ ghost use Rattle.vcd_words.specs.Partial.{vectorWith};
 ghost use Rattle.recording.specs.Records.{start as startOf, variableOf, withVariableOf, at as atPlace, withWidth, withCode, withVector};
 ghost use Rattle.recording.specs.Records.{withValue, declaring as declaringOf, withTime, withUp, withTaken, refused as refusedOf};
 ghost use Rattle.recording.specs.Records.{faultWith, strobeWith, readWith, only as onlyOf};
+ghost use Rattle.recording.specs.Records.{variableWith, variablesWith, pendingWith, stampWith, readerWith};
 use recording::Fault;
 use recording::Pending;
 use recording::Place;
@@ -265,4 +266,68 @@ pub fn fault_with(number: u8, offset: u64) -> Fault
     ensures { λ f. ⌜ f ≡ faultWith number offset ⌝ }
 {
     Fault { number, offset }
+}
+
+pub fn variable_with(code: u32, width: u8, v: Value) -> Variable
+    ensures { λ r. ⌜ r ≡ variableWith code width v ⌝ }
+{
+    Variable {
+        code,
+        width,
+        value: v,
+    }
+}
+
+pub fn variables_with(
+    stb: Variable,
+    cmd: Variable,
+    core: Variable,
+    arg: Variable,
+    prio: Variable,
+) -> Variables
+    ensures { λ r. ⌜ r ≡ variablesWith stb cmd core arg prio ⌝ }
+{
+    Variables {
+        stb,
+        cmd,
+        core,
+        arg,
+        prio,
+    }
+}
+
+pub fn pending_with(width: u8, code: u32, v: Vector) -> Pending
+    ensures { λ r. ⌜ r ≡ pendingWith width code v ⌝ }
+{
+    Pending {
+        width,
+        code,
+        vector: v,
+    }
+}
+
+pub fn stamp_with(opened: bool, time: u64, up: bool) -> Stamp
+    ensures { λ r. ⌜ r ≡ stampWith opened time up ⌝ }
+{
+    Stamp { opened, time, up }
+}
+
+pub fn reader_with(
+    place: Place,
+    pending: Pending,
+    variables: Variables,
+    stamp: Stamp,
+    taken: u16,
+    fault: Fault,
+) -> Reader
+    ensures { λ r. ⌜ r ≡ readerWith place pending variables stamp taken fault ⌝ }
+{
+    Reader {
+        place,
+        pending,
+        variables,
+        stamp,
+        taken,
+        fault,
+    }
 }

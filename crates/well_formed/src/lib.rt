@@ -96,7 +96,8 @@ fn is_idle(s: Source) -> bool
     s.dropped == 0
 }
 
-// Whether a source is fresh: masked, of configured priority 1, with no request and nothing dropped. So nested, the compiler merges the tests.
+// Whether a source is fresh: masked, of configured priority 1, with no request and nothing dropped. So nested, the compiler merges the
+// tests.
 pub fn is_reset_source(s: Source) -> bool
     ensures { λ r. ⌜ r ≡ isResetSource s ⌝ }
 {
