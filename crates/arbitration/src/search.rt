@@ -7,7 +7,7 @@ use crate::marks::MARKS;
 use model::SOURCES;
 
 // What a search answers: the index of the first highest key, and the number of ranges that were looked into.
-#[derive(Drop)]
+#[derive(Clone, Copy)]
 pub struct Looked {
     pub at: usize,
     pub ranges: u16,

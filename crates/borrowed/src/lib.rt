@@ -1,4 +1,6 @@
 // The calls on records that the host lends. Document 01, "Two further faces", and document 02, 3/14.
+#![tactic(auto)]
+
 ghost use Rattle.std.specs.Prelude.{◌<◌, ◌≤◌, ◌≡◌};
 ghost use Rattle.model.specs.Records.{max_sources, taken, claimed_as};
 ghost use Rattle.borrowed.specs.Lent.{claimable as claimable_core, taken_from, found_in, ranges_in};
@@ -64,7 +66,7 @@ pub extern "C" fn psic_claim_in_place(c: &mut Core) -> Claimed
 // ---- the search over a lent list
 
 // What the length of a list says: the number that is answered, and how many of its records are read.
-#[derive(Drop)]
+#[derive(Clone, Copy)]
 struct Extent {
     number: u8,
     read: usize,
@@ -88,7 +90,7 @@ fn extent_of(len: usize) -> Extent
 
 // What the search over a lent list comes to: the number, the position plus one of the first highest candidate, and the ranges looked
 // into. Each call answers its part of it.
-#[derive(Drop)]
+#[derive(Clone, Copy)]
 struct Sought {
     number: u8,
     position: u16,

@@ -1,5 +1,7 @@
 // What is carried between two chunks of a recording, read from bytes and written to bytes. The bytes are those of
 // recording/specs/Carrying.antt. Calls for the exports, which test with is_carried first.
+#![tactic(auto)]
+
 ghost use Rattle.std.specs.Prelude.{◌+◌, ◌≤◌, ◌≡◌, not, length};
 ghost use Rattle.std.proofs.lemmas.List.Edits.{sets};
 ghost use Rattle.layout.specs.Bytes.{is_flag_at};

@@ -1,4 +1,6 @@
 // Runs document 01's table of runs through the proved commands, and prints for people what each command answers.
+#![tactic(auto)]
+
 mod print;
 mod script;
 

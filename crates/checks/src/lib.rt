@@ -1,5 +1,7 @@
 // What is checked of a command on a sound state: its id or core number, then what its own line of "Numbers for no" says. Nothing is
 // changed.
+#![tactic(auto)]
+
 pub mod numbers;
 
 ghost use Rattle.std.specs.Prelude.{◌≡◌, ltb};

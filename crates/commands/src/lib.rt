@@ -1,5 +1,7 @@
 // Making a controller, and one call for all eight commands, on any state whatever. The public face of the model.
 // Each contract is one equation with its definition: it fixes state, number, id and cycles on every input.
+#![tactic(auto)]
+
 ghost use Rattle.std.specs.Prelude.{◌≡◌};
 ghost use Rattle.model.specs.Commands.{execute as execute_of, make as make_of};
 

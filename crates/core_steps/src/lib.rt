@@ -1,4 +1,6 @@
 // The two commands on a core, on a sound state that lies in a host's bytes: decide by the core's record, then store.
+#![tactic(auto)]
+
 ghost use Rattle.std.specs.Prelude.{◌≡◌};
 ghost use Rattle.layout.specs.Bytes.{state_from};
 ghost use Rattle.in_place.specs.Steps.{Ready, Executed};

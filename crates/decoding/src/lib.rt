@@ -1,5 +1,7 @@
 // A state, a word and a command read from bytes, and a command from its numbers. The bytes are those of layout/specs/Bytes.antt. Calls for
 // the exports, which test lengths first; the program cases reads its commands here too.
+#![tactic(auto)]
+
 ghost use Rattle.std.specs.Prelude.{◌+◌, ◌*◌, ◌<◌, ◌≤◌, ◌≡◌, length};
 ghost use Rattle.layout.specs.Commands.{command_of};
 ghost use Rattle.layout.specs.Bytes.{word_at, source_size, core_size, state_size, source_from, core_from, state_from};

@@ -1,5 +1,7 @@
 // A state, a command and an answer written as bytes. The bytes are those of layout/specs/Bytes.antt. Calls for the exports, which test
 // lengths first.
+#![tactic(auto)]
+
 ghost use Rattle.std.specs.Prelude.{◌+◌, ◌*◌, ◌<◌, ◌≤◌, ◌≡◌, ◌∷◌, ◌++◌, length};
 ghost use Rattle.model.specs.Records.{max_sources, max_cores};
 ghost use Rattle.std.proofs.lemmas.List.Edits.{sets};
@@ -16,7 +18,7 @@ use model::{
 };
 
 // A command's own number, 0 to 7, the id or the core, and the priority, 0 where it has none.
-#[derive(Drop)]
+#[derive(Clone, Copy)]
 struct Numbers {
     number: u8,
     target: u16,

@@ -1,5 +1,7 @@
 // The table of handovers, as an array of arrays by value, and in a host's memory row after row.
 // Document 01's form: "32 by 32 handover counts as an array of arrays by value".
+#![tactic(auto)]
+
 ghost use Rattle.std.specs.Prelude.{◌<◌, ◌≤◌, ◌≡◌, length};
 ghost use Rattle.model.specs.Records.{max_cores};
 ghost use Rattle.routines.specs.Routines.{counted};

@@ -1,5 +1,7 @@
 // A state in a host's bytes: records are written where they lie, and with each of them the number that stands for its core or its source
 // in arbitration. Nothing else changes a number, so they are right after each store.
+#![tactic(auto)]
+
 ghost use Rattle.std.specs.Prelude.{◌<◌, ◌≤◌, ◌≡◌, length, set};
 ghost use Rattle.std.proofs.lemmas.List.Edits.{sets};
 ghost use Rattle.model.specs.Records.{max_sources, max_cores};
@@ -12,7 +14,7 @@ use arbitration::places;
 use model::{CORES, Core, SOURCES, Source, SourceId};
 
 // What a command answers besides the state: document 01's number, the claimed id, and the cycles.
-#[derive(Drop)]
+#[derive(Clone, Copy)]
 pub struct Outcome {
     pub number: u8,
     pub id: SourceId,

@@ -1,5 +1,7 @@
 // The bytes of a state, of commands and of answers: in specs/ their definitions, here the lengths and places that the code uses. The
 // crate decoding reads them, encoding writes them.
+#![tactic(auto)]
+
 use model::{CORES, SOURCES};
 
 // The fields of a source, behind the word of its configured priority, and all its bytes.

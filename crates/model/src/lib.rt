@@ -2,6 +2,7 @@
 // Document 01, "The controller and its sources" and "What is held".
 // Records that a host lends are in C's layout (`repr(C)`).
 // Widths: ids, core numbers and priorities are u16, so that up to 1,023 sources with priorities up to 2,047 fit.
+#![tactic(auto)]
 
 // The largest sizes: n is 1 to 128, m is 1 to 32.
 pub const SOURCES: usize = 128;
@@ -10,16 +11,16 @@ pub const CORES: usize = 32;
 
 // A source's id, 1 to n; 0 means none. Never a core number.
 #[repr(C)]
-#[derive(Drop)]
+#[derive(Clone, Copy)]
 pub struct SourceId(pub u16);
 
 // A core's number, 0 to m - 1. Never a source id.
-#[derive(Drop)]
+#[derive(Clone, Copy)]
 pub struct CoreId(pub u16);
 
 // One interrupt source, with at most one request.
 #[repr(C)]
-#[derive(Drop)]
+#[derive(Clone, Copy)]
 pub struct Source {
     // the priority of its next request
     pub configured: u16,
@@ -34,7 +35,7 @@ pub struct Source {
 
 // Room for one delivered request. Document 01: "box".
 #[repr(C)]
-#[derive(Drop)]
+#[derive(Clone, Copy)]
 pub struct MessageBox {
     pub filled: bool,
     pub dirty: bool,
@@ -45,7 +46,7 @@ pub struct MessageBox {
 
 // One core's interface to the controller.
 #[repr(C)]
-#[derive(Drop)]
+#[derive(Clone, Copy)]
 pub struct Core {
     pub configured: u16,
     pub message: MessageBox,
@@ -53,7 +54,7 @@ pub struct Core {
 
 // The whole state. Source id i stands at sources[i - 1], core k at cores[k];
 // records past n and past m are kept as after a reset.
-#[derive(Drop)]
+#[derive(Clone, Copy)]
 pub struct Controller {
     pub n: u16,
     pub m: u16,
@@ -62,7 +63,7 @@ pub struct Controller {
 }
 
 // What a command does to a source.
-#[derive(Drop)]
+#[derive(Clone, Copy)]
 pub enum SourceAction {
     SetSourcePriority(u16),
     Mask,
@@ -73,21 +74,21 @@ pub enum SourceAction {
 }
 
 // What a command does to a core.
-#[derive(Drop)]
+#[derive(Clone, Copy)]
 pub enum CoreAction {
     SetCorePriority(u16),
     Claim,
 }
 
 // The eight commands, by their subject: what is done, and to which source or core.
-#[derive(Drop)]
+#[derive(Clone, Copy)]
 pub enum Command {
     OnSource(SourceId, SourceAction),
     OnCore(CoreId, CoreAction),
 }
 
 // What three numbers name: a command, or none.
-#[derive(Drop)]
+#[derive(Clone, Copy)]
 pub enum Decoded {
     Unknown,
     Known(Command),
@@ -95,7 +96,7 @@ pub enum Decoded {
 
 // What every call answers: the state handed back, document 01's number (0 is success),
 // the claimed id (0 for every other call), and the cycles of settling.
-#[derive(Drop)]
+#[derive(Clone, Copy)]
 pub struct Answer {
     pub state: Controller,
     pub number: u8,
@@ -106,7 +107,7 @@ pub struct Answer {
 // What the search over a lent list answers: document 01's number, and the position plus one of the first highest candidate, 0 for
 // none.
 #[repr(C)]
-#[derive(Drop)]
+#[derive(Clone, Copy)]
 pub struct Found {
     pub number: u8,
     pub position: u16,
@@ -114,14 +115,14 @@ pub struct Found {
 
 // How many ranges of the comparator tree the search over a lent list looks into, with document 01's number.
 #[repr(C)]
-#[derive(Drop)]
+#[derive(Clone, Copy)]
 pub struct Ranged {
     pub number: u8,
     pub ranges: u16,
 }
 
 // What the claim of one core record gives: document 01's number, the claimed id, and the record after it.
-#[derive(Drop)]
+#[derive(Clone, Copy)]
 pub struct Taken {
     pub number: u8,
     pub id: SourceId,
@@ -130,14 +131,14 @@ pub struct Taken {
 
 // What the claim of a lent record answers.
 #[repr(C)]
-#[derive(Drop)]
+#[derive(Clone, Copy)]
 pub struct Claimed {
     pub number: u8,
     pub id: SourceId,
 }
 
 // What one cycle of settling does.
-#[derive(Drop)]
+#[derive(Clone, Copy)]
 pub enum Cycle {
     Rest,
     // the core's dirty box is emptied

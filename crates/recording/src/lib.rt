@@ -1,9 +1,10 @@
 // What a reader of a recording holds between two words, by value. What each word does to it is said in specs/.
 // Document 01, "The bus monitor's text": Value Change Dump text (IEEE 1364), cut down.
 // All numbers and flags: nothing of the text is kept but the number that a code spells, a width, and a vector's value.
+#![tactic(auto)]
 
 // What may stand next.
-#[derive(Drop)]
+#[derive(Clone, Copy)]
 pub enum Place {
     // among the definitions: a declaration, something to skip, or their end
     Definition,
@@ -28,7 +29,7 @@ pub enum Place {
 }
 
 // The five variables of a recording.
-#[derive(Drop)]
+#[derive(Clone, Copy)]
 pub enum Signal {
     Stb,
     Cmd,
@@ -38,21 +39,21 @@ pub enum Signal {
 }
 
 // What a variable holds: a number, or not known, by an x or z; then the number is 0.
-#[derive(Drop)]
+#[derive(Clone, Copy)]
 pub struct Value {
     pub known: bool,
     pub number: u16,
 }
 
 // A declared variable. Its code as the number that its one to four bytes spell; 0: not declared.
-#[derive(Drop)]
+#[derive(Clone, Copy)]
 pub struct Variable {
     pub code: u32,
     pub width: u8,
     pub value: Value,
 }
 
-#[derive(Drop)]
+#[derive(Clone, Copy)]
 pub struct Variables {
     pub stb: Variable,
     pub cmd: Variable,
@@ -62,14 +63,14 @@ pub struct Variables {
 }
 
 // A vector whose code is due: how many bits it gives, held at 255, and their value, its number held at 65,535.
-#[derive(Drop)]
+#[derive(Clone, Copy)]
 pub struct Vector {
     pub length: u8,
     pub value: Value,
 }
 
 // What is read of a declaration or of a change under way: the width, held at 255, the code, and the vector.
-#[derive(Drop)]
+#[derive(Clone, Copy)]
 pub struct Pending {
     pub width: u8,
     pub code: u32,
@@ -77,7 +78,7 @@ pub struct Pending {
 }
 
 // Whether a stamp is open, its time, and whether stb was 1 at the end of the stamp before.
-#[derive(Drop)]
+#[derive(Clone, Copy)]
 pub struct Stamp {
     pub opened: bool,
     pub time: u64,
@@ -85,14 +86,14 @@ pub struct Stamp {
 }
 
 // The number and the offset of the first fault; number 0: none so far.
-#[derive(Drop)]
+#[derive(Clone, Copy)]
 pub struct Fault {
     pub number: u8,
     pub offset: u64,
 }
 
 // All that a reader holds. taken counts the commands.
-#[derive(Drop)]
+#[derive(Clone, Copy)]
 pub struct Reader {
     pub place: Place,
     pub pending: Pending,
@@ -104,7 +105,7 @@ pub struct Reader {
 
 // The command that is taken where a stamp ends, as three numbers: its own, 0 to 7; the id or the core; and the priority, 0 where it
 // has none. Not given: all are 0.
-#[derive(Drop)]
+#[derive(Clone, Copy)]
 pub struct Strobe {
     pub given: bool,
     pub number: u16,
@@ -113,7 +114,7 @@ pub struct Strobe {
 }
 
 // What a word does: the reader after it, and the command taken at it.
-#[derive(Drop)]
+#[derive(Clone, Copy)]
 pub struct Read {
     pub reader: Reader,
     pub strobe: Strobe,
@@ -122,7 +123,7 @@ pub struct Read {
 // What a call for hosts answers: the number of the first fault, or 2 or 255, 0 for none; how many commands it wrote or answered; the
 // offset of the fault, and without one the text's length.
 #[repr(C)]
-#[derive(Drop)]
+#[derive(Clone, Copy)]
 pub struct Report {
     pub number: u8,
     pub count: u16,

@@ -1,6 +1,8 @@
 // The calls for hosts on recordings: the commands of a text with their times, and the replay of a text. Each is proved to write what its
 // definition in recording/specs/Calls.antt says and nothing else, on any bytes whatever. Buffers that don't fit are answered by 255, and
 // stay as they were. A text is read once, from one command to the next, and nothing of it is kept.
+#![tactic(auto)]
+
 ghost use Rattle.std.specs.Prelude.{◌≤◌, min, ◌≡◌, true, cond, length};
 ghost use Rattle.layout.specs.Bytes.{one_command};
 ghost use Rattle.recording.specs.Stamps.{max_commands, commands_of};

@@ -1,4 +1,6 @@
 // One record made, or read: what a command makes of a source or a core, and what is read off one.
+#![tactic(auto)]
+
 ghost use Rattle.std.specs.Prelude.{◌≡◌};
 ghost use Rattle.model.specs.Records.{source_with, with_configured, with_mask, with_delivered, opened as opened_of, ended as ended_of, box_with};
 ghost use Rattle.model.specs.Records.{dropped_one, empty_box, holding, core_with, reset as reset_of, answer};

@@ -1,6 +1,8 @@
 // The calls for hosts on a simulation of the interrupt routines, in C's memory: the bytes of the controller's state, and beside them the
 // active ids and the last holders as numbers. Each is proved to answer and to write what its definition in routines/specs/Calls.antt
 // says and nothing else, whatever it is lent. What can't be read is answered by 255, and every buffer stays as it was.
+#![tactic(auto)]
+
 ghost use Rattle.std.specs.Prelude.{◌≤◌, ◌≡◌, length, replicate};
 ghost use Rattle.model.specs.Records.{max_sources, core_id};
 ghost use Rattle.routines.specs.Calls.{DoesCall, make_routines_call, routine_call};

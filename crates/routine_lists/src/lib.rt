@@ -1,6 +1,8 @@
 // The call for hosts on a list of the interrupt routines' calls, with the handovers counted. It is proved to answer and to write what its
 // definition in routines/specs/Calls.antt says and nothing else, whatever it is lent. What can't be read or doesn't fit is answered by
 // 2^64 - 1, and every buffer stays as it was.
+#![tactic(auto)]
+
 ghost use Rattle.std.specs.Prelude.{◌≡◌, true};
 ghost use Rattle.routines.specs.Calls.{call_of, DoesSimulate, fits_simulate, simulate_call};
 

@@ -1,5 +1,7 @@
 // Calls of the interrupt routines one after another, on a simulation in a host's memory. It is tested once: a call keeps a sound
 // simulation sound, and refuses an unsound one by 1, which leaves it as it was.
+#![tactic(auto)]
+
 ghost use Rattle.std.specs.Prelude.{◌<◌, ◌≡◌, true, length};
 ghost use Rattle.model.specs.Records.{max_sources, max_cores};
 ghost use Rattle.layout.specs.Bytes.{is_state, state_from};
@@ -15,7 +17,7 @@ use routines::{DirectAction, RoutineCall};
 
 // What a call answers besides the simulation, and the last holder, plus one, of the request that an accepted entry takes; 0 for every
 // other call.
-#[derive(Drop)]
+#[derive(Clone, Copy)]
 pub struct Stepped {
     pub number: u8,
     pub id: SourceId,

@@ -1,4 +1,6 @@
 // The test of a simulation in a host's memory: the controller's state in its bytes, beside it the active ids and the last holders.
+#![tactic(auto)]
+
 ghost use Rattle.std.specs.Prelude.{◌<◌, ◌≡◌, length};
 ghost use Rattle.layout.specs.Bytes.{state_size};
 ghost use Rattle.model.specs.Records.{max_sources, max_cores};

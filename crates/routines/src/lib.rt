@@ -1,9 +1,11 @@
 // The interrupt routines on all cores: the state of their simulation and its calls, by value. What they mean is said in specs/.
 // Document 02, 4/14; source document 002, Listing 1.
+#![tactic(auto)]
+
 use model::{CORES, Controller, CoreId, SOURCES, SourceId};
 
 // The controller, and what the entry code keeps beside it.
-#[derive(Drop)]
+#[derive(Clone, Copy)]
 pub struct Routines {
     pub controller: Controller,
     // by core: the id of the request whose routine runs there; 0 for none
@@ -13,7 +15,7 @@ pub struct Routines {
 }
 
 // The commands on a source that a run may hold. Redeliver and complete are given by the routines' code alone.
-#[derive(Drop)]
+#[derive(Clone, Copy)]
 pub enum DirectAction {
     SetPriority(u16),
     Mask,
@@ -22,7 +24,7 @@ pub enum DirectAction {
 }
 
 // The calls of the simulation.
-#[derive(Drop)]
+#[derive(Clone, Copy)]
 pub enum RoutineCall {
     Direct(SourceId, DirectAction),
     Enter(CoreId),
@@ -31,7 +33,7 @@ pub enum RoutineCall {
 
 // What every call answers: the state handed back, the number (0 is success), the id that an entry claimed (0 for every other call),
 // and the cycles of its commands, added.
-#[derive(Drop)]
+#[derive(Clone, Copy)]
 pub struct RoutineAnswer {
     pub state: Routines,
     pub number: u8,
@@ -40,7 +42,7 @@ pub struct RoutineAnswer {
 }
 
 // The call that three numbers name, if they name one.
-#[derive(Drop)]
+#[derive(Clone, Copy)]
 pub enum DecodedCall {
     Unnamed,
     Named(RoutineCall),

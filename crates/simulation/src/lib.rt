@@ -1,5 +1,7 @@
 // The interrupt routines by value: making a simulation, and one call for all of its calls, on any values whatever. Each contract is one
 // equation with its definition in routines/specs/Routines.antt.
+#![tactic(auto)]
+
 ghost use Rattle.std.specs.Prelude.{◌≡◌};
 ghost use Rattle.routines.specs.Routines.{make_routines, call_routine};
 

@@ -1,5 +1,7 @@
 // Commands on a source, on the bytes of a sound state: its record is read, made anew, and written back where it lies, and its request is
 // offered to the least core.
+#![tactic(auto)]
+
 ghost use Rattle.std.specs.Prelude.{◌≤◌, ◌≡◌, not, ◌&&◌, length};
 ghost use Rattle.model.specs.Records.{max_cores};
 ghost use Rattle.model.specs.Requests.{boxed as boxed_in};

@@ -1,4 +1,6 @@
 // The sound-state test on a state's bytes: each record is read where it lies, and the state is never held whole.
+#![tactic(auto)]
+
 ghost use Rattle.std.specs.Prelude.{◌+◌, ◌≤◌, ◌≡◌, length};
 ghost use Rattle.model.specs.Records.{max_sources, max_cores};
 ghost use Rattle.model.specs.WellFormed.{well_formed};

@@ -1,5 +1,7 @@
 // Commands one after another on a state in a host's bytes. The state is tested once: a command keeps a sound state sound, and refuses an
 // unsound one by 1, which leaves it as it was.
+#![tactic(auto)]
+
 ghost use Rattle.std.specs.Prelude.{◌≡◌, true, length};
 ghost use Rattle.model.specs.Records.{max_sources, max_cores};
 ghost use Rattle.model.specs.Commands.{execute};

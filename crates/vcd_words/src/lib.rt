@@ -1,5 +1,7 @@
 // The words of a recording, from bytes: what is kept of each, and what it does at its place. What the words of a text do is said in the
 // crate recording.
+#![tactic(auto)]
+
 mod declarations;
 mod flags;
 mod marks;
@@ -13,7 +15,7 @@ use recording::Signal;
 // The number that a word spells after its first byte, as far as it is read: decimal after # or a digit, binary after b or B.
 // whole: every byte is a digit. known: no bit is x or z. over: the number is above 2^64 - 1, and value is held there; a binary one is
 // held at 65,535.
-#[derive(Drop)]
+#[derive(Clone, Copy)]
 pub struct Number {
     pub whole: bool,
     pub known: bool,
@@ -23,7 +25,7 @@ pub struct Number {
 
 // What is kept of a word under way, of one size whatever the word's length: the length, held at 256; the first byte; the last sixteen
 // bytes, as two numbers of eight; and the number that the word spells.
-#[derive(Drop)]
+#[derive(Clone, Copy)]
 pub struct Partial {
     pub length: u16,
     pub first: u8,
@@ -33,7 +35,7 @@ pub struct Partial {
 }
 
 // What is kept of the last sixteen bytes, and where the bytes end.
-#[derive(Drop)]
+#[derive(Clone, Copy)]
 pub struct Spelled {
     pub end: usize,
     pub high: u64,
@@ -41,14 +43,14 @@ pub struct Spelled {
 }
 
 // Where a word ends, or the slice does, and what is kept of the word.
-#[derive(Drop)]
+#[derive(Clone, Copy)]
 pub struct Scanned {
     pub end: usize,
     pub partial: Partial,
 }
 
 // The words that mean something by their spelling.
-#[derive(Drop)]
+#[derive(Clone, Copy)]
 pub enum Keyword {
     Date,
     Version,
@@ -72,7 +74,7 @@ pub enum Keyword {
 }
 
 // How a keyword of at most sixteen bytes is kept.
-#[derive(Drop)]
+#[derive(Clone, Copy)]
 pub struct Spelling {
     pub length: u16,
     pub high: u64,
@@ -80,7 +82,7 @@ pub struct Spelling {
 }
 
 // The variable of a name or of a code, if there is one.
-#[derive(Drop)]
+#[derive(Clone, Copy)]
 pub enum Named {
     Of(Signal),
     Nothing,

@@ -1,6 +1,8 @@
 // Writes a run of commands as a recording. What is written is said in recording/specs/Writing.antt, and what the call answers in
 // recording/specs/Calls.antt. The list is tested and the text measured first, and nothing is written; then the text is written from its
 // end to its front, as the digits of a number come out.
+#![tactic(auto)]
+
 mod lengths;
 mod lines;
 mod values;

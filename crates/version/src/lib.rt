@@ -1,4 +1,6 @@
 // The version of the calls for hosts, answered by the library itself, so that a host can tell whether its header fits.
+#![tactic(auto)]
+
 ghost use Rattle.std.specs.Prelude.{◌≡◌};
 ghost use Rattle.version.specs.Version.{version_of};
 

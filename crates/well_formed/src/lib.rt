@@ -1,4 +1,6 @@
 // The sound-state test: what it asks of one record, whatever that holds. The passes over a state are the crate state_test.
+#![tactic(auto)]
+
 ghost use Rattle.std.specs.Prelude.{min, max, ◌≡◌, true};
 ghost use Rattle.lists.specs.Numbers.{between};
 ghost use Rattle.model.specs.WellFormed.{sizes_in_range, is_empty_box, is_reset_source, is_reset_core};
@@ -11,7 +13,7 @@ use model::{CORES, Core, MessageBox, SOURCES, Source};
 pub const UNBOXED: u16 = 65535;
 
 // What one pass over a state says of it. Where the state isn't consistent, every other field is false or 0.
-#[derive(Drop)]
+#[derive(Clone, Copy)]
 pub struct Surveyed {
     // sizes, ranges and blank values are right, and each filled box names its request; no source lies in two boxes
     pub consistent: bool,

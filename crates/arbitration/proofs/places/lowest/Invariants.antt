@@ -1,0 +1,15 @@
+-- `arbitration::places::lowest` meets its contract: the least so far is that of the numbers passed. The measure is what is left of the row.
+-- Assumes nothing.
+use Prim.Native.Nat.{ℕ, ◌-◌}
+use mathlib.Core.List.{List}
+use mathlib.Core.Logic.{⊎_elim}
+use Rattle.std.proofs.Common.{arith}
+use Rattle.arbitration.specs.Places.{AtMost}
+use Rattle.arbitration.proofs.Told.{SoFar, so_far_none, so_far_taken, so_far_left, so_far_all}
+use Rattle.arbitration.proofs.places.lowest.Given as goal
+
+abbrev pub invariant-loop-k : goal.invariant-loop-k
+invariant-loop-k l = SoFar AtMost l.keys l.m l.k l.least
+
+abbrev pub decreases-loop-k : goal.decreases-loop-k
+decreases-loop-k l = l.m - l.k
