@@ -1,7 +1,7 @@
 -- `encoding::put_answer` meets its contract: its store and its words are one run. Assumes nothing.
 use native.Mathlib.Omega.{arith}
 use lib.ListN.{length-set}
-use Rattle.encoding.proofs.Writing.{answer-written}
+use Rattle.encoding.proofs.Writing.{answer_written}
 use borrow.Author.Rules.{rules}
 use Rattle.encoding.proofs.put_answer.Statement.{statement}
 use Rattle.encoding.proofs.put_answer.Tie as tie
@@ -31,7 +31,7 @@ returns c =
     let a = c.before.before.before.before.before.before.before.before.before.args in
     let id = c.before.before.before.before.before.before.put_word in
     let cycles = c.before.before.put-word2 in
-    answer-written a.b.now a.i a.number a.id.0 a.cycles id.new.0 cycles.new.0 id.ensures cycles.ensures
+    answer_written a.b.now a.i a.number a.id.0 a.cycles id.new.0 cycles.new.0 id.ensures cycles.ensures
 
 pub put-answer-spec : {M : Type 1} → statement M
 put-answer-spec =

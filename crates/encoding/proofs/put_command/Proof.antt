@@ -1,7 +1,7 @@
 -- `encoding::put_command` meets its contract: its store and its words are one run, of the command's numbers. Assumes nothing.
 use native.Mathlib.Omega.{arith}
 use lib.ListN.{length-set}
-use Rattle.encoding.proofs.Writing.{command-written}
+use Rattle.encoding.proofs.Writing.{command_written}
 use borrow.Author.Rules.{rules}
 use Rattle.encoding.proofs.put_command.Statement.{statement}
 use Rattle.encoding.proofs.put_command.Tie as tie
@@ -36,7 +36,7 @@ returns c =
     let called = c.before.before.before.before.before.before.before.before in
     let a = called.before.before.args in
     let x = called.Numbers-of in
-    command-written a.b.now a.i a.c x.result.number x.result.target x.result.level target.new.0 level.new.0
+    command_written a.b.now a.i a.c x.result.number x.result.target x.result.level target.new.0 level.new.0
     x.ensures.0 x.ensures.1 x.ensures.2 target.ensures level.ensures
 
 pub put-command-spec : {M : Type 1} → statement M
