@@ -7,11 +7,6 @@ use Rattle.in_place.proofs.put_back.Goals as goal
 
 pub returns-then-c : goal.returns-then-c
 returns-then-c c =
-    let stored = c in
-    let made = stored in
-    let read = made in
-    let then = read in
-    let start = then in
     λ s keys h.
-    back_filled h start.args.c.message start.requires.1 then.if-c.true read.source_at-r.ensures made.with_delivered.ensures
-    stored.put_source.ensures.0 stored.put_source.ensures.1
+    back_filled h c.args.c.message c.requires.1 c.if-c.true c.source_at-r.ensures c.with_delivered.ensures
+    c.put_source.ensures.0 c.put_source.ensures.1

@@ -4,10 +4,6 @@ use Rattle.in_place.proofs.retract.Goals as goal
 
 pub returns : goal.returns
 returns c =
-    let boxed = c in
-    let made = boxed in
-    let back = made in
-    let start = back in
     λ s h at-k.
-    held_retracted h start.requires.1 at-k back.put_back.ensures made.emptied.ensures boxed.put_core.ensures.0
-    boxed.put_core.ensures.1
+    held_retracted h c.requires.1 at-k c.put_back.ensures c.emptied.ensures c.put_core.ensures.0
+    c.put_core.ensures.1

@@ -156,8 +156,8 @@ loop-k-preserved c =
       | then-c+else-seen-at+else-not-is_backed w ↦
           (
           let id : ℕ = core.message.source.0 in
-          let (low, high) = names.1 w.if-c.true in
-          let tested = backing c.args.state.now core (id - 1) (omega (arith, low, high, sources_le)) w.source_at.ensures w.is_backed.ensures in
+    let (low, high) = names.1 w.if-c.true in
+    let tested = backing c.args.state.now core (id - 1) (omega (arith, low, high, sources_le)) w.source_at.ensures w.is_backed.ensures in
           filled_read state c.loop-k.k read b names sources_le w.if-c.true w.if-seen-at.false
           (accepted (flag_exact _) tested w.if-not-is_backed.false) w.seen-is
           )
