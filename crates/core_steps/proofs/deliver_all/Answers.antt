@@ -60,8 +60,7 @@ deliver-requires c =
     let core-found : let at = c in c.core_at-c.result ≡ core_at (state_from c.loop-t.state) (core_of c.lowest-key.result) = let at = c in
     let place = c.core_of-k.ensures in
     c.core_at-c.ensures ∙ ap (λ (k : ℕ). core_from c.loop-t.state (core_place k)) place ∙
-    read_core inv.held _ (turn_core inv top low above) in
-            (
+    read_core inv.held _ (turn_core inv top low above) in (
       held_length inv.held,
       omega (arith, c.source_of-i.ensures, turn_source inv top low above),
       omega (arith, c.core_of-k.ensures, turn_core inv top low above),
@@ -84,7 +83,7 @@ loop-t-preserved c =
     let source-found : c.source_at-r.result ≡ source_at (state_from c.loop-t.state) (source_of c.greatest-top.result) = let place = c.source_of-i.ensures in
     c.source_at-r.ensures ∙ ap (λ (i : ℕ). source_from c.loop-t.state (source_place i)) place ∙
     read_source inv.held _ (turn_source inv top low above) in
-                        delivered_more inv top low above core-found source-found
+    delivered_more inv top low above core-found source-found
     (rw (c.source_of-i.ensures, c.core_of-k.ensures) c c.deliver.ensures)
     (omega (arith, c.loop-t-test.taken, start.requires.2))
 
@@ -101,5 +100,5 @@ returns-then-priority_of-current_of c =
     subst (λ (x : ℕ). GreatestOf c.loop-t.ranks x search.result) start.requires.1 search.ensures in
     let low : LowestOf c.loop-t.keys (state_from start.args.state.now).m c.lowest-key.result = let search = c.lowest-key in
     subst (λ (x : ℕ). LowestOf c.loop-t.keys x search.result) start.requires.2 search.ensures in
-        delivered_rest inv
+    delivered_rest inv
     (turn_rests inv top low (omega (arith, c.if-priority_of-current_of.true, c.current_of.ensures, c.priority_of.ensures)))

@@ -35,9 +35,9 @@ returns-then-number-ne0 c =
     let named : names_core (state_from c.args.state.now) c.args.core ≡ true = let core = c.args.core in
     named_by c.requires core c.word_at-m.ensures c.names_core.ensures (c.if-not-names_core.false) in
     let found : let given = c.args in Judged (state_from given.state.now) given.core given.a-1 c.core_at-c.result c.core_refusal-number.result = let given = c.args in
-        judged c.requires given.core named given.a c.word_at-n.ensures c.core_at-c.ensures
+    judged c.requires given.core named given.a c.word_at-n.ensures c.core_at-c.ensures
     c.core_refusal-number.ensures in
-            refused_later c.requires found c.if-number-ne0.true c.answered-then-number-ne0.ensures
+    refused_later c.requires found c.if-number-ne0.true c.answered-then-number-ne0.ensures
 
 pub put_core-requires : goal.put_core-requires
 put_core-requires c =
@@ -51,7 +51,7 @@ settle-cycles-requires c =
     let named : names_core (state_from c.args.state.now) c.args.core ≡ true = let core = c.args.core in
     named_by c.requires core c.word_at-m.ensures c.names_core.ensures (c.if-not-names_core.false) in
     let found : let given = c.args in Judged (state_from given.state.now) given.core given.a-1 c.core_at-c.result c.core_refusal-number.result = let given = c.args in
-        judged c.requires given.core named given.a c.word_at-n.ensures c.core_at-c.ensures
+    judged c.requires given.core named given.a c.word_at-n.ensures c.core_at-c.ensures
     c.core_refusal-number.ensures in
     let is_set = c.a-1.given.1 in
     let size-n = c.word_at-n.ensures in
@@ -76,10 +76,10 @@ returns-in-SetCorePriority c =
     let named : names_core (state_from c.args.state.now) c.args.core ≡ true = let core = c.args.core in
     named_by c.requires core c.word_at-m.ensures c.names_core.ensures (c.if-not-names_core.false) in
     let found : let given = c.args in Judged (state_from given.state.now) given.core given.a-1 c.core_at-c.result c.core_refusal-number.result = let given = c.args in
-        judged c.requires given.core named given.a c.word_at-n.ensures c.core_at-c.ensures
+    judged c.requires given.core named given.a c.word_at-n.ensures c.core_at-c.ensures
     c.core_refusal-number.ensures in
     let is_set = c.a-1.given.1 in
-            set_leaves c.requires found c.if-number-ne0.left c.core_with.result c.put_core.ensures
+    set_leaves c.requires found c.if-number-ne0.left c.core_with.result c.put_core.ensures
     is_set c.core_with.ensures c.settle-cycles.ensures c.answered-in-SetCorePriority.ensures
 
 pub returns-in-Claim : goal.returns-in-Claim
@@ -87,8 +87,8 @@ returns-in-Claim c =
     let named : names_core (state_from c.args.state.now) c.args.core ≡ true = let core = c.args.core in
     named_by c.requires core c.word_at-m.ensures c.names_core.ensures (c.if-not-names_core.false) in
     let found : let given = c.args in Judged (state_from given.state.now) given.core given.a-1 c.core_at-c.result c.core_refusal-number.result = let given = c.args in
-        judged c.requires given.core named given.a c.word_at-n.ensures c.core_at-c.ensures
+    judged c.requires given.core named given.a c.word_at-n.ensures c.core_at-c.ensures
     c.core_refusal-number.ensures in
     let is-claim = c.enum_told-1.given.1 in
-            claim_leaves c.requires found c.if-number-ne0.left c.claimed_core.result c.put_core-in-Claim.ensures
+    claim_leaves c.requires found c.if-number-ne0.left c.claimed_core.result c.put_core-in-Claim.ensures
     is-claim c.claimed_core.ensures c.answered-in-Claim.ensures
