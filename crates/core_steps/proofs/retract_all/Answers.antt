@@ -31,7 +31,11 @@ loop-k-preserved c =
     let e = c.loop-k.invariant in
     let inside = core_inside e below in
     let read = c.core_at-c.ensures ∙ read_core e.held _ inside in
-    elim c.if-c.branch [ then-c w ↦ emptying_by (emptying_filled e below read w.if-c.true w.4.ensures) w.7 w.8 w.9 w.10 | else-c w ↦ emptying_by (emptying_empty e below read w.if-c.false) w.1 w.2 w.3 w.4 ]
+    elim c.if-c.branch [
+      | then-c w ↦
+          emptying_by (emptying_filled e below read w.if-c.true w.retract.ensures) w.state-is w.keys-is w.ranks-is w.cycles-is
+      | else-c w ↦ emptying_by (emptying_empty e below read w.if-c.false) w.state-is w.keys-is w.ranks-is w.cycles-is
+    ]
 
 pub returns : goal.returns
 returns c = emptying_all c.loop-k.invariant (omega (arith, c.loop-k-test.false, c.requires.1))
