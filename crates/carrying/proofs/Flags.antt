@@ -13,7 +13,6 @@ use lib.ListN.{length, get_or, get_or-eq_default}
 use Rattle.layout.specs.Bytes.{word_at, is_flag_at}
 use Rattle.recording.specs.Words.{all, separator}
 use Rattle.recording.specs.Chunks.{most_kept}
-use Rattle.recording.specs.declared.Place.{Place}
 use Rattle.recording.specs.declared.Place.TheVariants.{Definition}
 use Rattle.recording.specs.Carrying.{places, place_of, last_place, ended_at, length_at, bytes_at, carried_size, reader_flags, is_carried}
 use Rattle.vcd_words.specs.Partial.{between}
