@@ -1,7 +1,7 @@
 -- `carrying::is_carried` meets its contract: each test decides a part of `is_carried`. Assumes nothing.
 use Rattle.std.proofs.Common.{arith}
 use mathlib.Core.Path.{sym, ◌∙◌}
-use Rattle.carrying.proofs.Flags.{wrong_size, no_place, no_flags, no_mark, too_long, all-passed}
+use Rattle.carrying.proofs.Flags.{wrong_size, no_place, no_flags, no_mark, too_long, all_passed}
 use Rattle.carrying.proofs.is_carried.Goals as goal
 
 pub returns-then-b-ne-CARRIED_SIZE : goal.returns-then-b-ne-CARRIED_SIZE
@@ -25,7 +25,7 @@ returns-then-count-gt-MOST_KEPT c =
 pub returns : goal.returns
 returns c =
     let count = c.word_at-count in
-    all-passed c.args.b.now count.result c.no_separator.result
+    all_passed c.args.b.now count.result c.no_separator.result
     c.if-b-ne-CARRIED_SIZE.false c.if-b-gt-LAST_PLACE.false
     (sym c.reader_flags.ensures ∙ c.if-not-reader_flags.false)
     (sym c.is_flag.ensures ∙ c.if-not-is_flag.false)
