@@ -2,7 +2,7 @@
 use Prim.Native.Nat.{ℕ, ◌<◌}
 use mathlib.Core.Path.{refl, sym, subst, ◌∙◌}
 use lib.ListN.{length}
-use Rattle.vcd_writer.proofs.Calls.{write_unreadable, too_many, too_large, too_long, write-all}
+use Rattle.vcd_writer.proofs.Calls.{write_unreadable, too_many, too_large, too_long, write_all}
 use Rattle.vcd_writer.proofs.psic_write.Goals as goal
 
 pub returns-then-not-is_run : goal.returns-then-not-is_run
@@ -23,5 +23,5 @@ returns-then-text-size c =
 pub returns : goal.returns
 returns c =
     let fit = sym c.all_fit.ensures ∙ c.if-not-all_fit.false in
-    write-all _ _ (sym c.is_run.ensures ∙ c.if-not-is_run.false) c.if-count-gt-MAX_COMMANDS.false fit c.text_length-size.ensures.0 c.if-text-size.false refl
+    write_all _ _ (sym c.is_run.ensures ∙ c.if-not-is_run.false) c.if-count-gt-MAX_COMMANDS.false fit c.text_length-size.ensures.0 c.if-text-size.false refl
     c.put_text.ensures

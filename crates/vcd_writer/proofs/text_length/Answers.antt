@@ -2,7 +2,7 @@
 use mathlib.Core.Path.{ap, ◌∙◌}
 use lib.ListN.{length}
 use Rattle.std.proofs.Common.{arith}
-use Rattle.vcd_writer.proofs.Texts.{lines_placed, measured_none, measured-one}
+use Rattle.vcd_writer.proofs.Texts.{lines_placed, measured_none, measured_one}
 use Rattle.vcd_writer.proofs.text_length.Goals as goal
 
 pub loop-k-init : goal.loop-k-init
@@ -14,5 +14,5 @@ loop-k-preserved c =
     let k = c.loop-k.k in
     let same = lines_placed list k c.word_at.ensures c.word_at-in-loop-k.ensures in (
       omega arith,
-      measured-one list c.loop-k.invariant.1 (c.command_length-sum.ensures.0 ∙ ap length same) c.command_length-sum.ensures.1,
+      measured_one list c.loop-k.invariant.1 (c.command_length-sum.ensures.0 ∙ ap length same) c.command_length-sum.ensures.1,
     )

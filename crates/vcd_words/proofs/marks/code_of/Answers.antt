@@ -2,7 +2,7 @@
 use mathlib.Core.Path.{◌≡◌, ◌∙◌}
 use lib.ListN.{length}
 use Rattle.std.proofs.Common.{arith}
-use Rattle.vcd_words.proofs.Codes.{code_one, code-two, code-three, code-four, code_other}
+use Rattle.vcd_words.proofs.Codes.{code_one, code_two, code_three, code_four, code_other}
 use Rattle.vcd_words.proofs.marks.code_of.Goals as goal
 
 pub returns-in-1 : goal.returns-in-1
@@ -19,7 +19,7 @@ returns-in-2 c =
     let n : a.length ≡ 2 = c.in-2.is in
     λ u e.
     let same : length u ≡ 2 = e.same (omega arith) ∙ n in
-    rw (c.judged-in-2.ensures, c.all_printable-in-2.ensures) (code-two a.low e.before u same e.small (e.exact (omega arith)))
+    rw (c.judged-in-2.ensures, c.all_printable-in-2.ensures) (code_two a.low e.before u same e.small (e.exact (omega arith)))
 
 pub returns-in-3 : goal.returns-in-3
 returns-in-3 c =
@@ -28,7 +28,7 @@ returns-in-3 c =
     λ u e.
     let same : length u ≡ 3 = e.same (omega arith) ∙ n in
     rw (c.judged-in-3.ensures, c.all_printable-in-3.ensures)
-    (code-three a.low e.before u same e.small (e.exact (omega arith)))
+    (code_three a.low e.before u same e.small (e.exact (omega arith)))
 
 pub returns-in-4 : goal.returns-in-4
 returns-in-4 c =
@@ -36,7 +36,7 @@ returns-in-4 c =
     let n : a.length ≡ 4 = c.in-4.is in
     λ u e.
     let same : length u ≡ 4 = e.same (omega arith) ∙ n in
-    rw (c.judged-in-4.ensures, c.all_printable-in-4.ensures) (code-four a.low e.before u same e.small (e.exact (omega arith)))
+    rw (c.judged-in-4.ensures, c.all_printable-in-4.ensures) (code_four a.low e.before u same e.small (e.exact (omega arith)))
 
 pub returns-in_default : goal.returns-in_default
 returns-in_default c =

@@ -3,7 +3,7 @@
 use mathlib.Core.Path.{sym, ◌∙◌}
 use Rattle.std.proofs.Common.{arith}
 use Rattle.vcd_words.specs.Partial.{number_with}
-use Rattle.vcd_words.proofs.Numbers.{bits-more, bits_stop}
+use Rattle.vcd_words.proofs.Numbers.{bits_more, bits_stop}
 use Rattle.vcd_words.proofs.scanning.bits.Goals as goal
 
 pub returns-then-not-is_bit : goal.returns-then-not-is_bit
@@ -19,7 +19,7 @@ pub loop-i-preserved : goal.loop-i-preserved
 loop-i-preserved c =
     let a = c.args in
     let l = c.loop-i in
-    bits-more a.text.now l.i a.end (omega arith) (omega arith) (number_with a.n.whole l.known a.n.over l.value)
+    bits_more a.text.now l.i a.end (omega arith) (omega arith) (number_with a.n.whole l.known a.n.over l.value)
     c.with_bit-value.result c.still_known-known.result (sym c.is_bit.ensures ∙ c.if-not-is_bit.false)
     c.still_known-known.ensures c.with_bit-value.ensures
     ∙ l.invariant

@@ -1,6 +1,6 @@
 -- `vcd_words::scanning::scan` meets its contract. Assumes nothing.
 use Rattle.std.proofs.Common.{arith}
-use Rattle.vcd_words.proofs.Numbers.{scan_none, run_inside, scan-first, scan-more}
+use Rattle.vcd_words.proofs.Numbers.{scan_none, run_inside, scan_first, scan_more}
 use Rattle.vcd_words.proofs.scanning.scan.Goals as goal
 
 pub returns-then-end-from : goal.returns-then-end-from
@@ -26,7 +26,7 @@ returns-then-p-eq0 c =
         c.spell-s.ensures.1,
         c.spell-s.ensures.2,
       )
-          (scan-first a.text.now a.from c.spell-s.result.end c.spell-s.ensures.0 (omega arith) a.p c.if-p-eq0.true),
+          (scan_first a.text.now a.from c.spell-s.result.end c.spell-s.ensures.0 (omega arith) a.p c.if-p-eq0.true),
     )
 
 pub counted-n-requires-2 : goal.counted-n-requires-2
@@ -45,5 +45,5 @@ returns c =
         c.spell-s.ensures.1,
         c.spell-s.ensures.2,
       )
-          (scan-more a.text.now a.from c.spell-s.result.end c.spell-s.ensures.0 (omega arith) a.p c.if-p-eq0.false),
+          (scan_more a.text.now a.from c.spell-s.result.end c.spell-s.ensures.0 (omega arith) a.p c.if-p-eq0.false),
     )

@@ -1,7 +1,7 @@
 -- `vcd_writer::lines::put_numeral` meets its contract. The loop's invariant is `DigitsTo`. The measure is what is left of the number.
 -- Assumes nothing.
 use mathlib.Core.Path.{refl}
-use Rattle.vcd_writer.proofs.Numerals.{digits_above, digits_one, digits-end}
+use Rattle.vcd_writer.proofs.Numerals.{digits_above, digits_one, digits_end}
 use Rattle.vcd_writer.proofs.lines.put_numeral.Goals as goal
 
 pub overflow_sub-at-in-loop-rest : goal.overflow_sub-at-in-loop-rest
@@ -27,4 +27,4 @@ overflow_sub-result c =
 pub returns : goal.returns
 returns c =
     let l = c.loop-rest in
-    digits-end _ _ _ _ _ c.requires.0 l.text _ l.at l.rest l.invariant c.loop-rest-test.false refl refl
+    digits_end _ _ _ _ _ c.requires.0 l.text _ l.at l.rest l.invariant c.loop-rest-test.false refl refl
