@@ -44,7 +44,8 @@ returns-then-not-well_formed c =
 
 pub core_stands-requires : goal.core_stands-requires
 core_stands-requires c =
-    (sizes c.requires (sym c.well_formed-2.ensures ∙ c.if-not-well_formed.false) c.word_at-n.ensures c.word_at-m.ensures, c.loop-k-test.true)
+    let tested = sym c.well_formed-2.ensures ∙ c.if-not-well_formed.false in
+    (sizes c.requires tested c.word_at-n.ensures c.word_at-m.ensures, c.loop-k-test.true)
 
 pub returns-then-not-core_stands : goal.returns-then-not-core_stands
 returns-then-not-core_stands c =
@@ -54,7 +55,8 @@ returns-then-not-core_stands c =
 
 pub source_stands-requires : goal.source_stands-requires
 source_stands-requires c =
-    (sizes c.requires (sym c.well_formed-2.ensures ∙ c.if-not-well_formed.false) c.word_at-n.ensures c.word_at-m.ensures, c.loop-i-test.true)
+    let tested = sym c.well_formed-2.ensures ∙ c.if-not-well_formed.false in
+    (sizes c.requires tested c.word_at-n.ensures c.word_at-m.ensures, c.loop-i-test.true)
 
 pub returns-then-not-source_stands : goal.returns-then-not-source_stands
 returns-then-not-source_stands c =
