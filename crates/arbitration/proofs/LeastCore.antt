@@ -18,7 +18,7 @@ use Rattle.model.specs.declared.Core.{Core}
 use Rattle.model.specs.Records.{no_core}
 use Rattle.model.specs.Requests.{current_priority}
 use Rattle.model.specs.Arbitration.{core_key, lower, least}
-use Rattle.model.specs.Statements.{LeastIsFirst, Below, less, filled-first, GoesBefore, below, lower-number, LowerExact, LeastGoesFirst}
+use Rattle.model.specs.Statements.{LeastIsFirst, Below, less, filled_first, GoesBefore, below, lower_number, LowerExact, LeastGoesFirst}
 use Rattle.lists.proofs.Bools.{clash, Flag, on, off, flag}
 use Rattle.lists.proofs.Winner.{WeakOrder, by_key, converse, FirstIn, first_of, none_above, walk_first}
 
@@ -58,7 +58,7 @@ module _ (l : List Core) (i j : ℕ) where
     where
       go : Key c → Key d → Dec (current_priority c < current_priority d) → Below l i j
       go x y (yes p) = less p
-      go (even f e) (odd g u) (no p) = filled-first (omega arith) f g
+      go (even f e) (odd g u) (no p) = filled_first (omega arith) f g
       go (even f e) (even g u) (no p) = absurd (omega arith)
       go (odd f e) (even g u) (no p) = absurd (omega arith)
       go (odd f e) (odd g u) (no p) = absurd (omega arith)
@@ -71,9 +71,9 @@ module _ (l : List Core) (i j : ℕ) where
       go (less p) (even f e) (odd g u) = omega arith
       go (less p) (odd f e) (even g u) = omega arith
       go (less p) (odd f e) (odd g u) = omega arith
-      go (filled-first p f g) (even f' e) (odd g' u) = omega arith
-      go (filled-first p f g) (even f' e) (even g' u) = clash g' g
-      go (filled-first p f g) (odd f' e) y = clash f f'
+      go (filled_first p f g) (even f' e) (odd g' u) = omega arith
+      go (filled_first p f g) (even f' e) (even g' u) = clash g' g
+      go (filled_first p f g) (odd f' e) y = clash f f'
 
   -- neither is below the other
   alike : core_key c ≡ core_key d → (current_priority c ≡ current_priority d) × (c.message.filled ≡ d.message.filled)
@@ -134,7 +134,7 @@ module _ (l : List Core) (m k : ℕ) (h : k < m) where
       go (no p) (yes q) = absurd (p (ltb-true _ _ ((least_is_first l m (omega arith)).before k q)))
       go (no p) (no q) =
           let (same, boxes) = alike l (least l m) k (omega (arith, least_key)) in
-          lower-number same boxes (omega arith)
+          lower_number same boxes (omega arith)
 
 pub least_goes_first : LeastGoesFirst
 least_goes_first l m h = (least_below l m h, goes_before l m)

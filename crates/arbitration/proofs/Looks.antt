@@ -3,7 +3,7 @@
 --   look_one                       a range of one key
 --   Halved                         a range of at least two, cut in two
 --   only_right, first, second      what is asked of a look into a half: the right one alone; the left one, and then the right one
---   skipped-left, skipped-right    a half without a candidate is skipped
+--   skipped_left, skipped_right    a half without a candidate is skipped
 --   both_right, both_left          both halves are looked into
 --   left_falls, right_falls        the halves are shorter
 --   first_inside, second_inside    their answers lie in the array
@@ -26,7 +26,7 @@ use Rattle.model.specs.Arbitration.{rank, highest, candidate_at, ranges_with}
 use Rattle.lists.proofs.Bools.{clash, refuted, Flag, on, off, flag}
 use Rattle.lists.proofs.Walks.{Witness, some_out}
 use Rattle.lists.proofs.Tallies.{within_in, within_rise, level_within, rise_within}
-use Rattle.lists.proofs.Ranges.{occupied_single, occupied-node, occupied_none, occupied_size, occupied_cong}
+use Rattle.lists.proofs.Ranges.{occupied_single, occupied_node, occupied_none, occupied_size, occupied_cong}
 use Rattle.lists.proofs.Winner.{FirstIn, none_above}
 use Rattle.arbitration.specs.Keys.{key_above, HighestKey, RanksOf}
 use Rattle.arbitration.specs.declared.search.Looked.{Looked}
@@ -132,25 +132,25 @@ module _ {ks ms : List ℕ} {lo len looked a : ℕ} (p : Halved ks ms lo len loo
       let end : lo + len ≡ mid + rest = omega arith in
       (left_marks.1, p.asked.marked.before (lo + len) (omega arith) ∙ ap (λ (i : ℕ). tally i (ranked ks)) end)
 
-  half-asked :
+  half_asked :
       (from size count : ℕ) → from + size ≤ lo + len → within (ranked ks) (from, size) ≡ true → count + (size + size) ≤ 2 ^ 16 →
       Lookable ks ms from size count
-  half-asked from size count g held room =
+  half_asked from size count g held room =
       record { inside = omega arith; marked = marks_fewer p.asked.marked g; held = held; room = room }
 
   pub only_right : get_or ms lo 0 ≡ get_or ms mid 0 → Lookable ks ms mid rest (looked + 1)
   only_right e =
       let rises : get_or ms lo 0 < get_or ms (lo + len) 0 = marks_rise p.asked in
-      half-asked mid rest (looked + 1) (omega arith) (rise_within (ranked ks) mid rest (λ u. omega (arith, right_marks))) (omega arith)
+      half_asked mid rest (looked + 1) (omega arith) (rise_within (ranked ks) mid rest (λ u. omega (arith, right_marks))) (omega arith)
 
   pub first : (get_or ms lo 0 ≡ get_or ms mid 0 → ⊥) → Lookable ks ms lo a (looked + 1)
-  first d = half-asked lo a (looked + 1) (omega arith) (rise_within (ranked ks) lo a (λ u. d (omega (arith, left_marks)))) (omega arith)
+  first d = half_asked lo a (looked + 1) (omega arith) (rise_within (ranked ks) lo a (λ u. d (omega (arith, left_marks)))) (omega arith)
 
   pub second :
       {x middle : ℕ} → LookedInto ks lo a x (looked + 1) middle → (get_or ms mid 0 ≡ get_or ms (lo + len) 0 → ⊥) →
       Lookable ks ms mid rest middle
   second {x} {middle} r d =
-      half-asked mid rest middle (omega arith) (rise_within (ranked ks) mid rest (λ u. d (omega (arith, right_marks))))
+      half_asked mid rest middle (omega arith) (rise_within (ranked ks) mid rest (λ u. d (omega (arith, right_marks))))
       (omega (arith, r.counted, occupied_size (ranked ks) lo a (omega arith)))
 
   -- the halves' answers lie in the array
@@ -163,14 +163,14 @@ module _ {ks ms : List ℕ} {lo len looked a : ℕ} (p : Halved ks ms lo len loo
   node_count : occupied (ranked ks) lo len ≡ 1 + (occupied (ranked ks) lo a + occupied (ranked ks) mid rest)
   node_count =
       let right : rest ≡ len / 2 = omega arith in
-      rw (right, p.cut) (occupied-node (ranked ks) lo len p.longer p.asked.held)
+      rw (right, p.cut) (occupied_node (ranked ks) lo len p.longer p.asked.held)
 
   halves : {x y : ℕ} → HighestKey ks lo a x → HighestKey ks mid rest y → Beside ks lo len x y
   halves {x} {y} f g = beside ks lo a rest len x y (omega arith) (omega arith) (omega arith) f g
 
-  pub skipped-left :
+  pub skipped_left :
       {r after : ℕ} → get_or ms lo 0 ≡ get_or ms mid 0 → LookedInto ks mid rest r (looked + 1) after → LookedInto ks lo len r looked after
-  skipped-left {r} {after} e found =
+  skipped_left {r} {after} e found =
       let none : within (ranked ks) (lo, a) ≡ false = level_within (ranked ks) lo a (omega (arith, left_marks)) in
       let zero_there : get_or ks lo 0 ≡ 0 = key_none ks lo a none lo (omega arith) (omega arith) in
       let above : 0 < get_or ks r 0 = highest_some ks mid rest (only_right e).held r found.highest in
@@ -179,9 +179,9 @@ module _ {ks ms : List ℕ} {lo len looked a : ℕ} (p : Halved ks ms lo len loo
         counted = omega (arith, found.counted, node_count, occupied_none (ranked ks) lo a none);
       }
 
-  pub skipped-right :
+  pub skipped_right :
       {r after : ℕ} → get_or ms mid 0 ≡ get_or ms (lo + len) 0 → LookedInto ks lo a r (looked + 1) after → LookedInto ks lo len r looked after
-  skipped-right {r} {after} e found =
+  skipped_right {r} {after} e found =
       let none : within (ranked ks) (mid, rest) ≡ false = level_within (ranked ks) mid rest (omega (arith, right_marks)) in
       let zero_there : get_or ks mid 0 ≡ 0 = key_none ks mid rest none mid (omega arith) (omega arith) in
       record {

@@ -29,7 +29,7 @@ ranges_halved =
 
 pub range_lists : RangeLists
 unfolding ranges
-range_lists = record { of_one = refl; of_two = refl; of_three = refl; of_five = refl; of-eight = refl }
+range_lists = record { of_one = refl; of_two = refl; of_three = refl; of_five = refl; of_eight = refl }
 
 pub ranges_of_five : RangesOfFive
 unfolding tally occupied ranges_with candidates

@@ -85,10 +85,10 @@ module _ (l : List Source) (n : ℕ) where
   none_candidate e i h = refuted (candidate (get_or l i no_source)) (λ p. clash (highest_ge l n i h p).0 (id_none e))
 
   -- a candidate of a lower id is strictly below: it would have kept a tie
-  earlier-lt :
+  earlier_lt :
       1 ≤ n → candidate best ≡ true → (i : ℕ) → i < highest l n → candidate (get_or l i no_source) ≡ true →
       (get_or l i no_source).priority < best.priority
-  earlier-lt h q i g p =
+  earlier_lt h q i g p =
       let u : rank (get_or l i no_source) < rank best = ltb-true _ _ ((tree_finds_first l n h).before i g) in
       omega (arith, u, rank_candidate (get_or l i no_source) p, rank_candidate best q)
 
@@ -99,7 +99,7 @@ highest_id_exact l n h =
       inside = λ w e. by_id l n (λ (x : ℕ). (x < n) × (candidate (get_or l x no_source) ≡ true)) w e (λ q. (highest_below l n h, q));
       highest = λ w i e g p.
           by_id l n (λ (x : ℕ). (get_or l i no_source).priority ≤ (get_or l x no_source).priority) w e (λ q. (highest_ge l n i g p).1);
-      lowest-id = λ w i e g p.
+      lowest_id = λ w i e g p.
           by_id l n (λ (x : ℕ). i < x → (get_or l i no_source).priority < (get_or l x no_source).priority) w e
-          (λ q v. earlier-lt l n h q i v p) g;
+          (λ q v. earlier_lt l n h q i v p) g;
     }

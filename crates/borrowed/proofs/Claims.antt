@@ -45,11 +45,11 @@ module _ (c : Core) where
       clean_decides h = rw (named, in_range, lt-ltb c.configured c.message.priority h)
 
   -- the same from what the tests mean
-  pub clean-only :
+  pub clean_only :
       1 ≤ c.message.source.0 → c.message.source.0 ≤ max_sources →
       1 ≤ c.message.priority → c.message.priority ≤ top_priority max_sources →
       c.configured < c.message.priority → not c.message.dirty ≡ claimable c
-  clean-only some_id id-in some-priority priority-in =
+  clean_only some_id id-in some-priority priority-in =
       clean_decides ((between_exact 1 max_sources c.message.source.0).1 (some_id, id-in))
       ((between_exact 1 (top_priority max_sources) c.message.priority).1 (some-priority, priority-in))
 
@@ -74,10 +74,10 @@ module _ (c : Core) where
     taken_bad {b = b} e f q =
         q ∙ sym (second c.message.filled (claimable c) given bad none (not-false c.message.filled filled) (sym e ∙ not-true b f))
 
-    pub taken-good :
+    pub taken_good :
         {r : Taken} {b : Bool} {d : Core} → b ≡ claimable c → not b ≡ false → d ≡ claimed_core c →
         r ≡ taken 0 c.message.source d → r ≡ taken_from c
     unfolding taken_from
-    taken-good {b = b} e f g q =
+    taken_good {b = b} e f g q =
         q ∙ ap (λ (x : Core). taken 0 c.message.source x) g ∙
         sym (first c.message.filled (claimable c) given bad none (not-false c.message.filled filled) (sym e ∙ not-false b f))

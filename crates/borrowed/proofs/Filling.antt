@@ -13,7 +13,7 @@ use lib.WfN.{lt-wf_rel}
 use Rattle.model.specs.declared.Source.{Source}
 use Rattle.model.specs.Records.{max_sources, no_source}
 use Rattle.model.specs.Arbitration.{rank}
-use Rattle.lists.proofs.Filling.{Filling, filling_none, filling-more}
+use Rattle.lists.proofs.Filling.{Filling, filling_none, filling_more}
 use Rattle.arbitration.specs.Keys.{RanksOf}
 use Rattle.borrowed.specs.declared.Extent.{Extent}
 use Rattle.borrowed.specs.Keys.{read_of}
@@ -77,7 +77,7 @@ module _ (l : List Source) where
           i = f.i + 1;
           keys = set f.keys f.i k;
           within = omega arith;
-          filling = filling-more (λ i. rank) no_source l f.filling (omega (arith, (read_inside (length l)).1)) k e;
+          filling = filling_more (λ i. rank) no_source l f.filling (omega (arith, (read_inside (length l)).1)) k e;
         }
 
     pub nearer : Further one_more f

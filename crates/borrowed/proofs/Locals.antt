@@ -1,8 +1,8 @@
 -- Steps of a walk by hand, over locals: what the rules of the logic's proof kit say of a place that is a local, or one field of it,
 -- in one rule each. Assumes nothing.
---   local, field-of    the value of a local, or of a field of it, that lies in entry n of the context
+--   local, field_of_lem    the value of a local, or of a field of it, that lies in entry n of the context
 --   fills              an assignment to a local whose room is entry n
---   lands-in           a call's answer put into such a local
+--   lands_in           a call's answer put into such a local
 use mathlib.Core.Path.{◌≡◌}
 use Prim.Native.Nat.{ℕ, ◌+◌}
 use mathlib.Core.List.{List, [], ◌∷◌}
@@ -41,10 +41,10 @@ module _
   pub local : K → (n : ℕ) {i : ℕ} {q : Share} {v : Val} → nth 𝓛 n Γ ≡ cell 𝓤 H E i q v → Opd K 𝓛 Γ E (copy (place i [])) v
   local t n e = load t (from t (stop t)) (look t n e)
 
-  pub field-of :
+  pub field_of_lem :
       K → (n : ℕ) {i k : ℕ} {τ : Ty} {d : ℕ} {q : Share} {v : Val} {back : Val → Item 𝓤} → field_of (type 𝓤 H E i) k ≡ some (τ, d) →
       Part K 𝓛 (nth 𝓛 n Γ) q τ (block 𝓤 H E i) (0 + d) v back → Opd K 𝓛 Γ E (copy (place i (field k ∷ []))) v
-  field-of t n e p = load t (from t (fld t e (stop t))) (look_in t n p)
+  field_of_lem t n e p = load t (from t (fld t e (stop t))) (look_in t n p)
 
   module _ {C : Calls 𝓤 H} {Λ : Loops 𝓤 H} {q : Post 𝓤 H} where
     pub fills :
@@ -53,7 +53,7 @@ module _
         Step K 𝓛 (put 𝓛 n (cell 𝓤 H E i full_share v) Γ) (runs C Λ E rest q) Γ (runs C Λ E (seq (assign (place i []) rv) rest) q)
     fills t n e r typed = assigns t r (from t (stop t)) (init t n e typed)
 
-    pub lands-in :
+    pub lands_in :
         K → (n : ℕ) {i : ℕ} {rest : Body} {v : Val} → nth 𝓛 n Γ ≡ room 𝓤 H E i → T (has_ty (type 𝓤 H E i) v) × WT v →
         Step K 𝓛 (put 𝓛 n (cell 𝓤 H E i full_share v) Γ) (runs C Λ E rest q) Γ (lands C Λ E (place i []) v rest q)
-    lands-in t n e typed = land t (from t (stop t)) (init t n e typed)
+    lands_in t n e typed = land t (from t (stop t)) (init t n e typed)

@@ -9,12 +9,12 @@ use lib.Seq.{sets}
 use Rattle.layout.specs.Bytes.{word}
 use Rattle.recording.specs.declared.Reader.{Reader}
 use Rattle.recording.specs.Carrying.{place_number, pending_bytes, variables_bytes, stamp_bytes, fault_bytes, reader_bytes}
-use Rattle.lists.proofs.Writes.{sets-append}
+use Rattle.lists.proofs.Writes.{sets_append}
 
 pub then_run :
     (b : List ℕ) (i : ℕ) (xs ys : List ℕ) (j : ℕ) {b₁ b₂ : List ℕ} →
     b₁ ≡ sets b i xs → b₂ ≡ sets b₁ j ys → j ≡ i + length xs → b₂ ≡ sets b i (xs ++ ys)
-then_run b i xs ys j e₁ e₂ e = e₂ ∙ ap (λ (l : List ℕ). sets l j ys) e₁ ∙ sets-append b i j xs ys e
+then_run b i xs ys j e₁ e₂ e = e₂ ∙ ap (λ (l : List ℕ). sets l j ys) e₁ ∙ sets_append b i j xs ys e
 
 pub reader_written :
     (b : List ℕ) (r : Reader) (x : ℕ) {b₁ b₂ b₃ b₄ b₅ : List ℕ} →

@@ -2,8 +2,8 @@
 --   named_by, core_refused           a core that there is, and one that there isn't; core_in is its place
 --   Judged, judged               what the checks find of the record named
 --   refused_later                a refused command leaves bytes and numbers as they were
---   soiled, set-leaves           set core priority: what settling finds, and the answer
---   claim-leaves                 claim: nothing is left to settle
+--   soiled, set_leaves           set core priority: what settling finds, and the answer
+--   claim_leaves                 claim: nothing is left to settle
 use Prim.Native.Nat.{ℕ, zero, suc, ◌<◌, ◌≤◌}
 use mathlib.Core.Path.{◌≡◌, refl, sym, ap, subst, ◌∙◌}
 use mathlib.Core.Logic.{◌≢◌}
@@ -40,7 +40,7 @@ use Rattle.in_place.specs.Held.{core_place, Held}
 use Rattle.in_place.specs.Steps.{Says, Ready, Leaves, Executed}
 use Rattle.in_place.proofs.Numbering.{sizes_read}
 use Rattle.in_place.proofs.Refused.{refused}
-use Rattle.in_place.proofs.Stored.{held_back, held_here, held-core, read_core}
+use Rattle.in_place.proofs.Stored.{held_back, held_here, held_core, read_core}
 use Rattle.core_steps.specs.Phases.{soiled_all, AllClean, Soiled, Settled}
 
 -- The core is one of the state's, c its record, and x the number of the checks after that of the core.
@@ -105,7 +105,7 @@ module _ {b keys ranks : List ℕ} (p : Ready b keys ranks) where
       module _ (d : Core) {b₁ keys₁ : List ℕ}
           (stored : (b₁ ≡ sets b (core_place core.0) (core_bytes d)) × (keys₁ ≡ set keys core.0 (key_at core.0 d))) where
         after : Held (with_core s core.0 d) b₁ keys₁ ranks
-        after = held-core p.held core.0 (core_in core l.named) d stored.0 stored.1
+        after = held_core p.held core.0 (core_in core l.named) d stored.0 stored.1
 
         -- set core priority
         module _ {priority : ℕ} (is : a ≡ SetCorePriority priority) (new : d ≡ core_with priority c.message) where
@@ -153,11 +153,11 @@ module _ {b keys ranks : List ℕ} (p : Ready b keys ranks) where
           pub sizes_stay : ((state_from b₁).n ≡ s.n) × ((state_from b₁).m ≡ s.m)
           sizes_stay = (ap (λ (e : Controller). e.n) back, ap (λ (e : Controller). e.m) back)
 
-          pub set-leaves :
+          pub set_leaves :
               {o : Outcome} {y : ℕ} {b' keys' ranks' : List ℕ} → Settled (soiled_all (state_from b₁)) y b' keys' ranks' → Says o 0 0 y →
               Executed b (OnCore core a) o b' keys' ranks'
           unfolding settled answered_id
-          set-leaves {o} {y} {b'} {keys'} {ranks'} done (number, id, cycles) =
+          set_leaves {o} {y} {b'} {keys'} {ranks'} done (number, id, cycles) =
               let whole : settled (effect s command) (answered_id s command) ≡ execute s command = answers s command tested free_to_set in
               let kept : Leaves (settled (soiled_all (state_from b₁)) 0) o b' keys' ranks'
               = record { says = (number, id, cycles ∙ done.cycles_are); held = done.held } in
@@ -165,10 +165,10 @@ module _ {b keys ranks : List ℕ} (p : Ready b keys ranks) where
               (subst (λ (e : Answer). Leaves e o b' keys' ranks') (ap (λ (u : Controller). settled u 0) same ∙ whole) kept)
 
         -- claim
-        pub claim-leaves :
+        pub claim_leaves :
             {o : Outcome} → a ≡ Claim → d ≡ claimed_core c → Says o 0 c.message.source.0 0 →
             Executed b (OnCore core a) o b₁ keys₁ ranks
-        claim-leaves {o} is new (number, id, cycles) =
+        claim_leaves {o} is new (number, id, cycles) =
             let (below, filled) : Checked s (OnCore core Claim) = checked s (OnCore core Claim) (rw is at unrefused) in
             let whole : execute s (OnCore core Claim) ≡
             answer (with_core s core.0 (claimed_core (core_at s core.0))) 0 (core_at s core.0).message.source.0 0 =

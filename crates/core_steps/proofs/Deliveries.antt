@@ -110,10 +110,10 @@ module _ {s : Controller} {b keys ranks : List ℕ} {t top key : ℕ} (d : Deliv
           let same : e.message.source.0 ≡ (core_at u (low_core u)).message.source.0 = rw (read_core, low.0) in
           (omega (arith, h.some_id, same), omega (arith, h.id_le, same, c.n_le))
 
-      pub delivered-more :
+      pub delivered_more :
           {r : Source} → r ≡ source_at u (source_of top) → {b' keys' ranks' : List ℕ} →
           Delivers (source_of top) r (core_of key) e b keys ranks b' keys' ranks' → t < s.m → DeliveredTo s b' keys' ranks' (t + 1)
-      delivered-more read_source {b'} {keys'} {ranks'} done more =
+      delivered_more read_source {b'} {keys'} {ranks'} done more =
           let after : Held (deliver u (source_of top) (core_of key)) b' keys' ranks' = done u d.held read_source read_core in
           let same : state_from b' ≡ deliver u (top_source u) (low_core u) = held_back after ∙ ap₂ (deliver u) source_is low.0 in
           record {

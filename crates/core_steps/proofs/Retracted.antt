@@ -111,10 +111,10 @@ module _ {s : Controller} {b keys ranks : List ℕ} {x k : ℕ} (e : Emptying s 
         let same : (core_at (soiled_all u) k).message.source.0 ≡ c.message.source.0 = rw (soiled_core u k, ← read) in
         (omega (arith, held.some_id, same), omega (arith, held.id_le, same, e.turn.consistent.n_le))
 
-    pub emptying-filled :
+    pub emptying_filled :
         c.message.filled ≡ true → {b' keys' ranks' : List ℕ} → Retracts k c b keys ranks b' keys' ranks' →
         Emptying s b' keys' ranks' (x + 1) (k + 1)
-    emptying-filled f {b'} {keys'} {ranks'} done =
+    emptying_filled f {b'} {keys'} {ranks'} done =
         let after : Held (retract u k) b' keys' ranks' = done u e.held read in
         let more : Retracting (soiled_all s) (retract (soiled_all u) k) (x + 1) (k + 1) =
         retracting_dirty (soiled_all s) (soiled_all u) x k e.turn k_lt (marked ∙ f) in

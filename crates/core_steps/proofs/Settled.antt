@@ -12,10 +12,10 @@ use Rattle.core_steps.specs.Phases.{soiled_all, Emptied, Delivered, Settled}
 
 module _ {b b₁ keys₁ ranks₁ : List ℕ} {x : ℕ} (e : Emptied b x b₁ keys₁ ranks₁) where
   -- 2m cycles less those of the retractions are enough for the deliveries
-  pub settled-by :
+  pub settled_by :
       {y : ℕ} {b₂ keys₂ ranks₂ : List ℕ} →
       Delivered b₁ y b₂ keys₂ ranks₂ → Settled (soiled_all (state_from b)) (x + y) b₂ keys₂ ranks₂
-  settled-by {y} {b₂} {keys₂} {ranks₂} d =
+  settled_by {y} {b₂} {keys₂} {ranks₂} d =
       let s : Controller = soiled_all (state_from b) in
       let f : ℕ = 2 * s.m - x in
       let all : x + f ≡ 2 * s.m = omega (arith, e.after.cycles_le) in

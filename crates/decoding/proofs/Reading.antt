@@ -15,7 +15,7 @@ use Rattle.model.specs.Records.{max_sources, max_cores, no_source, no_core, sour
 use Rattle.model.specs.Records.{reset}
 use Rattle.layout.specs.Bytes.{word_at, flag_at, source_from, core_from, source_of, core_of, state_from}
 use Rattle.lists.specs.Rows.{tabulated}
-use Rattle.lists.proofs.Filling.{Filled, Anything, ValueOf, filled_none, filled_more, filled-tabulated}
+use Rattle.lists.proofs.Filling.{Filled, Anything, ValueOf, filled_none, filled_more, filled_tabulated}
 
 -- ---- one record
 
@@ -87,6 +87,6 @@ module _ (b : List ℕ) where
     pub all_read : max_sources ≤ i → max_cores ≤ k → s ≡ state_from b
     unfolding state_from
     all_read h g =
-        let sources : s.sources ≡ tabulated max_sources (source_of b) = filled-tabulated no_source (source_of b) p.sources h in
-        let cores : s.cores ≡ tabulated max_cores (core_of b) = filled-tabulated no_core (core_of b) p.cores g in
+        let sources : s.sources ≡ tabulated max_sources (source_of b) = filled_tabulated no_source (source_of b) p.sources h in
+        let cores : s.cores ≡ tabulated max_cores (core_of b) = filled_tabulated no_core (core_of b) p.cores g in
         λ t. record { n = p.n t; m = p.m t; sources = sources t; cores = cores t }

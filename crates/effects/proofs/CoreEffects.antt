@@ -61,8 +61,8 @@ module _ (s : Controller) (c : Consistent s) (l : List Core) (fit : Recored s l)
         sources_length = c.sources_length;
         cores_length = fit.cores_length;
         configured_source = c.configured_source;
-        request-range = c.request-range;
-        idle-source = c.idle-source;
+        request_range = c.request_range;
+        idle_source = c.idle_source;
         configured_core = fit.configured;
         unfilled_box = fit.empty;
         spare_source = c.spare_source;
@@ -81,9 +81,9 @@ abbrev pub claimed_cores : Controller → ℕ → List Core
 claimed_cores s k = set s.cores k (claimed_core (core_at s k))
 
 module _ (s : Controller) (c : Consistent s) (k : ℕ) (k_lt : k < s.m) (filled : (core_at s k).message.filled ≡ true) where
-  read-claimed :
+  read_claimed :
       (P : Core → Type 0) (j : ℕ) → (j ≡ k → P (claimed_core (core_at s k))) → P (core_at s j) → P (get_or (claimed_cores s k) j no_core)
-  read-claimed P j same old =
+  read_claimed P j same old =
       let fits : k < length s.cores = omega arith in
       read_set P s.cores k j (claimed_core (core_at s k)) no_core fits same (λ h. old)
 
@@ -92,40 +92,40 @@ module _ (s : Controller) (c : Consistent s) (k : ℕ) (k_lt : k < s.m) (filled 
   box_range =
       let old : Holding s (core_at s k) = c.backed k k_lt filled in
       let i_lt : pred (core_at s k).message.source.0 < s.n = omega arith in
-      rw old.same_priority at (c.request-range (index_of (core_at s k).message.source) i_lt old.pending)
+      rw old.same_priority at (c.request_range (index_of (core_at s k).message.source) i_lt old.pending)
 
   pub claimed_recored : Recored s (claimed_cores s k)
   claimed_recored =
       record {
         cores_length = length-set s.cores k (claimed_core (core_at s k)) ∙ c.cores_length;
-        configured = λ j h. read-claimed (λ d. d.configured ≤ top_priority s.n) j (λ e. box_range.1) (c.configured_core j h);
-        empty = λ j h. read-claimed (λ d. d.message.filled ≡ false → d.message ≡ empty_box) j (λ e f. refl) (c.unfilled_box j h);
-        spare = λ j h l. read-claimed (λ d. d ≡ reset_core) j (λ e. absurd (omega arith)) (c.spare_core j h l);
+        configured = λ j h. read_claimed (λ d. d.configured ≤ top_priority s.n) j (λ e. box_range.1) (c.configured_core j h);
+        empty = λ j h. read_claimed (λ d. d.message.filled ≡ false → d.message ≡ empty_box) j (λ e f. refl) (c.unfilled_box j h);
+        spare = λ j h l. read_claimed (λ d. d ≡ reset_core) j (λ e. absurd (omega arith)) (c.spare_core j h l);
         carried = λ j h.
-            read-claimed (λ d. d.message.filled ≡ true → Carried (core_at s j) d) j (λ e f. clash f refl)
+            read_claimed (λ d. d.message.filled ≡ true → Carried (core_at s j) d) j (λ e f. clash f refl)
             (λ f. record { filled = f; same_source = refl; same_priority = refl; above = (c.backed j h f).above });
       }
 
   -- the claimed core was interrupted by its box, at the priority that it rises to
   pub current_same : (j : ℕ) → current_priority (get_or (claimed_cores s k) j no_core) ≡ current_priority (core_at s j)
-  current_same j = read-claimed (λ d. current_priority d ≡ current_priority (core_at s j)) j (λ e. rw (e, filled)) refl
+  current_same j = read_claimed (λ d. current_priority d ≡ current_priority (core_at s j)) j (λ e. rw (e, filled)) refl
 
   pub claimed_delivering : Delivering s → Delivering (with_cores s (claimed_cores s k))
   claimed_delivering old =
       record {
-        clean = λ j h. read-claimed (λ d. d.message.dirty ≡ false) j (λ e. refl) (old.clean j h);
+        clean = λ j h. read_claimed (λ d. d.message.dirty ≡ false) j (λ e. refl) (old.clean j h);
         covered = λ j i h h'. rw (current_same i)
-            (read-claimed (λ d. d.message.filled ≡ true → d.configured ≤ current_priority (core_at s i)) j (λ e f. clash f refl)
+            (read_claimed (λ d. d.message.filled ≡ true → d.configured ≤ current_priority (core_at s i)) j (λ e f. clash f refl)
             (old.covered j i h h'));
       }
 
   pub claimed_frugal : Frugal s → Frugal (with_cores s (claimed_cores s k))
   claimed_frugal f j i h h' =
-      read-claimed
+      read_claimed
       (λ c. c.message.filled ≡ true → (get_or (claimed_cores s k) i no_core).message.filled ≡ true →
       c.configured < (get_or (claimed_cores s k) i no_core).message.priority) j
       (λ e u v. clash u refl)
-      (read-claimed (λ d. (core_at s j).message.filled ≡ true → d.message.filled ≡ true →
+      (read_claimed (λ d. (core_at s j).message.filled ≡ true → d.message.filled ≡ true →
       (core_at s j).configured < d.message.priority) i
       (λ e u v. clash v refl) (f j i h h'))
 
@@ -136,33 +136,33 @@ abbrev pub set_cores : Controller → ℕ → ℕ → List Core
 set_cores s k p = map soiled (set s.cores k (core_with p (core_at s k).message))
 
 module _ (s : Controller) (c : Consistent s) (k : ℕ) (k_lt : k < s.m) (p : ℕ) (p-le : p ≤ top_priority s.n) where
-  read-after :
+  read_after :
       (P : Core → Type 0) (j : ℕ) → (j ≡ k → P (soiled (core_with p (core_at s k).message))) → P (soiled (core_at s j)) →
       P (get_or (set_cores s k p) j no_core)
-  read-after P j same old =
+  read_after P j same old =
       let fits : k < length s.cores = omega arith in
       let l : List Core = set s.cores k (core_with p (core_at s k).message) in
       rw (get_or-map soiled l j no_core)
       (read_set (λ d. P (soiled d)) s.cores k j (core_with p (core_at s k).message) no_core fits same (λ h. old))
 
   -- a core in use has some priority in range and its soiled box
-  read-used :
+  read_used :
       (P : Core → Type 0) (j : ℕ) → j < s.m → ((q : ℕ) → q ≤ top_priority s.n → P (soiled (core_with q (core_at s j).message))) →
       P (get_or (set_cores s k p) j no_core)
-  read-used P j h each =
-      read-after P j (λ e. rw (← e) (each p p-le)) (each (core_at s j).configured (c.configured_core j h))
+  read_used P j h each =
+      read_after P j (λ e. rw (← e) (each p p-le)) (each (core_at s j).configured (c.configured_core j h))
 
   pub set_recored : Recored s (set_cores s k p)
   set_recored =
       record {
         cores_length = simp (length-map, length-set) c.cores_length;
-        configured = λ j h. read-used (λ d. d.configured ≤ top_priority s.n) j h (λ q l. l);
-        empty = λ j h. read-used (λ d. d.message.filled ≡ false → d.message ≡ empty_box) j h (λ q l f. ap dirtied (c.unfilled_box j h f));
-        spare = λ j h l. read-after (λ d. d ≡ reset_core) j (λ e. absurd (omega arith)) (ap soiled (c.spare_core j h l));
+        configured = λ j h. read_used (λ d. d.configured ≤ top_priority s.n) j h (λ q l. l);
+        empty = λ j h. read_used (λ d. d.message.filled ≡ false → d.message ≡ empty_box) j h (λ q l f. ap dirtied (c.unfilled_box j h f));
+        spare = λ j h l. read_after (λ d. d ≡ reset_core) j (λ e. absurd (omega arith)) (ap soiled (c.spare_core j h l));
         carried = λ j h.
-            read-used (λ d. d.message.filled ≡ true → Carried (core_at s j) d) j h
+            read_used (λ d. d.message.filled ≡ true → Carried (core_at s j) d) j h
             (λ q l f. record { filled = f; same_source = refl; same_priority = refl; above = clash f });
       }
 
   pub set-all_dirty : AllDirty (with_cores s (set_cores s k p))
-  set-all_dirty j h = read-used (λ d. d.message.filled ≡ true → d.message.dirty ≡ true) j h (λ q l f. f)
+  set-all_dirty j h = read_used (λ d. d.message.filled ≡ true → d.message.dirty ≡ true) j h (λ q l f. f)

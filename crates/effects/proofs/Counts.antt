@@ -15,7 +15,7 @@ use native.Mathlib.Omega.{arith}
 use borrow.Author.Tests.{eq-eqb, ne_eqb}
 use Rattle.lists.specs.Numbers.{between, one_more_up_to}
 use Rattle.lists.proofs.Held.{held_by_lem}
-use Rattle.lists.proofs.Writes.{read_kept, read-written}
+use Rattle.lists.proofs.Writes.{read_kept, read_written}
 use Rattle.model.specs.declared.SourceId.{SourceId}
 use Rattle.model.specs.declared.Source.{Source}
 use Rattle.model.specs.declared.Controller.{Controller}
@@ -36,7 +36,7 @@ use Rattle.model.specs.Statements.{DroppedChanges, DroppedIsHistory}
 use Rattle.settling.proofs.Keeps.{settling_leaves_bare, kept_dropped}
 use Rattle.effects.proofs.Accepted.{execute_accepted, by_answer}
 use Rattle.effects.proofs.Checked.{passed_to}
-use Rattle.effects.proofs.Dropped.{by-refusal, core_kept, drops_checked}
+use Rattle.effects.proofs.Dropped.{by_refusal, core_kept, drops_checked}
 
 abbrev count : Source → ℕ
 count r = r.dropped
@@ -95,7 +95,7 @@ module _ (s : Controller) (i : ℕ) where
       let (w, (some, le), last) = drops_checked s id a (e ∙ six) in
       let at : ℕ = pred id.0 in
       let fits : pred id.0 < length s.sources = omega (arith, w.consistent.sources_length, w.consistent.n_le) in
-      let here = read-written (λ j. count) s.sources at i (dropped_one (source_at s at)) no_source fits
+      let here = read_written (λ j. count) s.sources at i (dropped_one (source_at s at)) no_source fits
       id.0 (suc i) (λ p. omega arith, λ p. omega arith)
       {v = one_more_up_to most_dropped (count (source_at s i))} {u = count (source_at s i)}
       (λ p. ap (λ j. one_more_up_to most_dropped (count (source_at s j))) p) refl in
@@ -107,7 +107,7 @@ module _ (s : Controller) (i : ℕ) where
       (source_at (after_refusal s c k) i).dropped ≡ cond (drops (suc i) c k) (one_more_up_to most_dropped before) before
   refused_count (OnSource id a) k is =
       let c : Command = OnSource id a in
-      by-refusal s c k (λ t. count (source_at t i) ≡ counted (drops (suc i) c k))
+      by_refusal s c k (λ t. count (source_at t i) ≡ counted (drops (suc i) c k))
       (λ h. ap counted (sym (undropped (suc i) c k h))) (λ six. dropped_count id a k six (is six))
   refused_count (OnCore core a) k is = ap (λ t. count (source_at t i)) (core_kept s core a k)
 

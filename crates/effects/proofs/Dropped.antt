@@ -1,6 +1,6 @@
 -- What a refused command hands back: the state given, but for a trigger that is counted as dropped. Assumes nothing.
 --   kept, counted, core_kept    by a number other than 6; by 6; a command on a core, by any
---   by-refusal                  what holds of the two holds of what is handed back
+--   by_refusal                  what holds of the two holds of what is handed back
 --   drops_checked, drops_named  what is refused by 6 on a source names one, in a sound state, and the last of its checks gives the number
 --   one_read, drop_read         a reading of sources in which the count doesn't show stays, where one is dropped, and after every refusal
 --   beside                      a reading in which the sources don't show stays: sizes, cores
@@ -39,22 +39,22 @@ module _ (s : Controller) (c : Command) (k : ℕ) where
   counted e = rw (eq-eqb k already_pending e)
 
   -- what holds of the state given and of that with the trigger counted
-  pub by-refusal :
+  pub by_refusal :
       (P : Controller → Type 0) → (k ≢ already_pending → P s) → (k ≡ already_pending → P (drop_counted s c)) → P (after_refusal s c k)
-  by-refusal P stays drops = go (flag (eqb k already_pending))
+  by_refusal P stays drops = go (flag (eqb k already_pending))
     where
       go : Flag (eqb k already_pending) → P (after_refusal s c k)
       go (on e) = rw e (drops (eqb-true k already_pending e))
       go (off e) = rw e (stays (eqb-false k already_pending e))
 
 pub core_kept : (s : Controller) (core : CoreId) (a : CoreAction) (k : ℕ) → after_refusal s (OnCore core a) k ≡ s
-core_kept s core a k = by-refusal s (OnCore core a) k (λ t. t ≡ s) (λ h. refl) (λ e. refl)
+core_kept s core a k = by_refusal s (OnCore core a) k (λ t. t ≡ s) (λ h. refl) (λ e. refl)
 
 -- ---- what is read beside the sources
 
 module _ {A : Type 0} (read : Controller → A) (s : Controller) (blind : (l : List Source) → read (with_sources s l) ≡ read s) where
   pub beside : (c : Command) (k : ℕ) → read (after_refusal s c k) ≡ read s
-  beside (OnSource id a) k = by-refusal s (OnSource id a) k (λ t. read t ≡ read s) (λ h. refl) (λ e. blind _)
+  beside (OnSource id a) k = by_refusal s (OnSource id a) k (λ t. read t ≡ read s) (λ h. refl) (λ e. blind _)
   beside (OnCore core a) k = ap read (core_kept s core a k)
 
 -- ---- what is refused by 6
@@ -81,7 +81,7 @@ module _ {A : Type 0} (read : Source → A) (blind : (x : ℕ) (r : Source) → 
 
   pub drop_read : (s : Controller) (c : Command) (k j : ℕ) → read (source_at (after_refusal s c k) j) ≡ read (source_at s j)
   drop_read s (OnSource id a) k j =
-      by-refusal s (OnSource id a) k (λ t. read (source_at t j) ≡ read (source_at s j)) (λ h. refl) (λ e. one_read s (index_of id) j)
+      by_refusal s (OnSource id a) k (λ t. read (source_at t j) ≡ read (source_at s j)) (λ h. refl) (λ e. one_read s (index_of id) j)
   drop_read s (OnCore core a) k j = ap (λ t. read (source_at t j)) (core_kept s core a k)
 
 -- ---- a sound state
@@ -94,8 +94,8 @@ module _ (s : Controller) (w : WellFormed s) (i : ℕ) (i_lt : i < s.n) where
             with_source-consistent s w.consistent i i_lt (dropped_one (source_at s i))
             (record {
               configured = w.consistent.configured_source i i_lt;
-              request = w.consistent.request-range i i_lt;
-              idle = w.consistent.idle-source i i_lt;
+              request = w.consistent.request_range i i_lt;
+              idle = w.consistent.idle_source i i_lt;
               in_box = λ k h e. (refl, refl, refl);
             });
         clean = w.clean;
@@ -105,13 +105,13 @@ module _ (s : Controller) (w : WellFormed s) (i : ℕ) (i_lt : i < s.n) where
                   λ j k j-lt k_lt is.
                   rw (one_read (λ (r : Source). r.priority) (λ x r. refl) s i j)
                   (w.quiet.candidates_settled_lem j k j-lt k_lt (sym (one_read candidate (λ x r. refl) s i j) ∙ is));
-              covered-settled = w.quiet.covered-settled;
+              covered_settled_lem = w.quiet.covered_settled_lem;
             };
         frugal = w.frugal;
       }
 
 pub refused-well_formed : (s : Controller) (c : Command) → WellFormed s → WellFormed (after_refusal s c (refusal s c))
 refused-well_formed s (OnSource id a) w =
-    by-refusal s (OnSource id a) (refusal s (OnSource id a)) WellFormed (λ h. w)
+    by_refusal s (OnSource id a) (refusal s (OnSource id a)) WellFormed (λ h. w)
     (λ e. dropped_well_formed s w (index_of id) (drops_named s id a e).1)
 refused-well_formed s (OnCore core a) w = rw (core_kept s core a (refusal s (OnCore core a))) w

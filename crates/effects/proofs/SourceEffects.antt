@@ -74,10 +74,10 @@ module _ (s : Controller) (c : Consistent s) (i : ℕ) (i_lt : i < s.n) (r : Sou
         cores_length = c.cores_length;
         configured_source = λ j h. read (λ q. InTop (top_priority s.n) q.configured) j (λ e. fit.configured)
             (c.configured_source j h);
-        request-range = λ j h. read (λ q. q.pending ≡ true → InTop (top_priority s.n) q.priority) j (λ e. fit.request)
-            (c.request-range j h);
-        idle-source = λ j h. read (λ q. q.pending ≡ false → (q.delivered ≡ false) × (q.priority ≡ 0)) j (λ e. fit.idle)
-            (c.idle-source j h);
+        request_range = λ j h. read (λ q. q.pending ≡ true → InTop (top_priority s.n) q.priority) j (λ e. fit.request)
+            (c.request_range j h);
+        idle_source = λ j h. read (λ q. q.pending ≡ false → (q.delivered ≡ false) × (q.priority ≡ 0)) j (λ e. fit.idle)
+            (c.idle_source j h);
         configured_core = c.configured_core;
         unfilled_box = c.unfilled_box;
         spare_source = λ j h l. read (λ q. q ≡ reset_source) j (λ e. absurd (omega arith)) (c.spare_source j h l);
@@ -104,8 +104,8 @@ module _ (s : Controller) (c : Consistent s) (i : ℕ) (i_lt : i < s.n) where
   set_replaces p b range =
       record {
         configured = range;
-        request = c.request-range i i_lt;
-        idle = c.idle-source i i_lt;
+        request = c.request_range i i_lt;
+        idle = c.idle_source i i_lt;
         in_box = λ k h e. (refl, refl, refl);
       }
 
@@ -131,8 +131,8 @@ module _ (s : Controller) (c : Consistent s) (i : ℕ) (i_lt : i < s.n) where
   redelivered_replaces e =
       record {
         configured = c.configured_source i i_lt;
-        request = c.request-range i i_lt;
-        idle = λ f. (refl, (c.idle-source i i_lt f).1);
+        request = c.request_range i i_lt;
+        idle = λ f. (refl, (c.idle_source i i_lt f).1);
         in_box = λ k h f. absurd (claimed_unboxed e k h f);
       }
 

@@ -1,6 +1,6 @@
 -- Writing bytes: stores one after another are one run of stores, and runs written from the front make up a state's bytes.
 -- Assumes nothing.
---   word_stores, source_written, core_written, answer-written, command-written    one record, from what each store and call leaves
+--   word_stores, source_written, core_written, answer_written, command_written    one record, from what each store and call leaves
 --   Written, written_none, source_more, core_more                how far a state is written
 --   all_written                                                  past the last source and the last core the bytes are the state's
 use Prim.Native.Nat.{ℕ, ◌+◌, ◌*◌, ◌<◌, ◌≤◌}
@@ -47,18 +47,18 @@ module _ (b : List ℕ) (i : ℕ) where
       b₃ ≡ sets b i (core_bytes c)
   core_written c b₁ b₂ b₃ filled dirty e₁ ef ed e₂ e₃ = rw (e₃, e₂, ef, ed, e₁) (simp towards_suc)
 
-  pub answer-written :
+  pub answer_written :
       (number id cycles : ℕ) (b₁ b₂ : List ℕ) →
       b₁ ≡ sets (set b i number) (i + 1) (word id) → b₂ ≡ sets b₁ (i + 3) (word cycles) →
       b₂ ≡ sets b i (number ∷ (word id ++ word cycles))
-  answer-written number id cycles b₁ b₂ e₁ e₂ = rw (e₂, e₁) (simp towards_suc)
+  answer_written number id cycles b₁ b₂ e₁ e₂ = rw (e₂, e₁) (simp towards_suc)
 
-  pub command-written :
+  pub command_written :
       (c : Command) (number target level : ℕ) (b₁ b₂ : List ℕ) →
       number ≡ number_of c → target ≡ target_of c → level ≡ level_of c →
       b₁ ≡ sets (set b i number) (i + 1) (word target) → b₂ ≡ sets b₁ (i + 3) (word level) →
       b₂ ≡ sets b i (command_bytes c)
-  command-written c number target level b₁ b₂ en et el e₁ e₂ = rw (← en, ← et, ← el) (answer-written number target level b₁ b₂ e₁ e₂)
+  command_written c number target level b₁ b₂ en et el e₁ e₂ = rw (← en, ← et, ← el) (answer_written number target level b₁ b₂ e₁ e₂)
 
 -- ---- what is written from the front
 
@@ -103,10 +103,10 @@ module _ (s : Controller) where
       }
 
   -- the bytes vs of a record, stored right behind the front
-  written-more :
+  written_more :
       (b b' vs : List ℕ) (at i k i' k' : ℕ) → Written s b i k → at ≡ place i k → b' ≡ sets b at vs →
       i' ≤ max_sources → k' ≤ max_cores → place i' k' ≡ at + length vs → front s i' k' ≡ front s i k ++ vs → Written s b' i' k'
-  written-more b b' vs at i k i' k' p ea e hi hk ej ef =
+  written_more b b' vs at i k i' k' p ea e hi hk ej ef =
       record {
         sized = p.sized;
         size = ap length e ∙ length-sets b at vs ∙ p.size;
@@ -122,7 +122,7 @@ module _ (s : Controller) where
   source_more b b' i p h e =
       let g : i < length s.sources = omega (arith, p.sized.sources) in
       let more = joined_more source_bytes s.sources i no_source g in
-      written-more b b' (source_bytes (source_at s i)) (sources_from + source_size * i) i 0 (i + 1) 0 p (omega arith) e
+      written_more b b' (source_bytes (source_at s i)) (sources_from + source_size * i) i 0 (i + 1) 0 p (omega arith) e
       (omega arith) (omega arith) (omega arith) (simp (more, append-nil))
 
   pub core_more :
@@ -131,7 +131,7 @@ module _ (s : Controller) where
   core_more b b' i k p h g e =
       let q : k < length s.cores = omega (arith, p.sized.cores) in
       let more = joined_more core_bytes s.cores k no_core q in
-      written-more b b' (core_bytes (core_at s k)) (cores_from + core_size * k) i k i (k + 1) p (omega (arith, p.sources_within)) e
+      written_more b b' (core_bytes (core_at s k)) (cores_from + core_size * k) i k i (k + 1) p (omega (arith, p.sources_within)) e
       p.sources_within (omega arith) (omega arith) (simp (more, append_assoc))
 
   pub all_written : (b : List ℕ) (i k : ℕ) → Written s b i k → max_sources ≤ i → max_cores ≤ k → b ≡ state_bytes s

@@ -1,6 +1,6 @@
 -- What each call answers and writes, from what the functions that it calls hand back. Assumes nothing.
 --   make_unfit, make_refused, make_answered       `make_call`
---   bad_bytes, bad_number, execute-went           `execute_call`
+--   bad_bytes, bad_number, execute_went           `execute_call`
 --   run_fit, run_unfit, run_by                    `run_call`: a run, none, either
 --   run_ran, run_unread, run_no_room              the same from what the loop has left, and from the tests before it
 use Prim.Native.Nat.{ℕ, ◌+◌, ◌*◌}
@@ -66,11 +66,11 @@ module _ (number at p : ℕ) (b : List ℕ) where
     pub bad_number : d ≡ Unknown → Does unreadable b (execute_call number at p b)
     bad_number f = done unreadable b (execute_call number at p b) (executed ∙ rw f)
 
-    pub execute-went :
+    pub execute_went :
         {r : ℕ} {c : Command} {sound : Bool} {o : Outcome} {b' keys' ranks' : List ℕ} → d ≡ Known c →
         Went (execute (state_from b) c) sound o b' keys' ranks' → r ≡ o.number + 256 * (o.id.0 + 65536 * o.cycles) →
         Does r b' (execute_call number at p b)
-    execute-went {r} {c} {sound} {o} {b'} f w er =
+    execute_went {r} {c} {sound} {o} {b'} f w er =
         let a : Answer = execute (state_from b) c in
         let (number_is, id_is, cycles_are) : Says o a.number a.id.0 a.cycles = w.says in
         answered r b' a (execute_call number at p b) (executed ∙ rw f) (er ∙ rw (number_is, id_is, cycles_are))

@@ -29,11 +29,11 @@ module _ (t : Handovers) (holder k : ℕ) where
     over : handed_over holder k ≡ true
     over = and_in (lt-ltb 0 holder (omega arith)) (not_in (ne_eqb holder (suc k) (omega arith)))
 
-    pub raised-cell :
+    pub raised_cell :
         cell_at t (holder - 1) k < most_handovers →
         set t (holder - 1) (set (row_at t (holder - 1)) k (cell_at t (holder - 1) k + 1)) ≡ counted t holder k
     unfolding counted
-    raised-cell h = rw (add-one (cell_at t (holder - 1) k), over, row, lt-ltb (cell_at t (holder - 1) k) most_handovers h)
+    raised_cell h = rw (add-one (cell_at t (holder - 1) k), over, row, lt-ltb (cell_at t (holder - 1) k) most_handovers h)
 
     pub full_cell : most_handovers ≤ cell_at t (holder - 1) k → t ≡ counted t holder k
     unfolding counted

@@ -14,7 +14,7 @@ use denote.Array.{each, in_array}
 use denote.Shadow.{shadow}
 use Rattle.lists.specs.Rows.{tabulated}
 use Rattle.lists.proofs.Rows.{tabulated_all, joined_tabulated}
-use Rattle.lists.proofs.Filling.{Filled, Anything, ValueOf, filled-tabulated}
+use Rattle.lists.proofs.Filling.{Filled, Anything, ValueOf, filled_tabulated}
 use Rattle.model.specs.Records.{max_cores}
 use Rattle.routines.specs.Routines.{Handovers, row_at, cell_at}
 use Rattle.routines.specs.Calls.{table_size, table_in, table_words}
@@ -43,7 +43,7 @@ module _ (w : List ℕ) where
 
   pub rows_all : {r : ℕ} {t : Handovers} → Rows r t → max_cores ≤ r → t ≡ table_in w
   unfolding table_in
-  rows_all p h = filled-tabulated [] (λ i. tabulated max_cores (word i)) p h
+  rows_all p h = filled_tabulated [] (λ i. tabulated max_cores (word i)) p h
 
 -- ---- writing
 

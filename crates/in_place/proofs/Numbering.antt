@@ -1,13 +1,13 @@
 -- The numbers of a state's bytes, one record after another. Assumes nothing.
 --   sizes_read                the two sizes
---   key_more, rank-more       one number more
---   numbered-all              all of them
+--   key_more, rank_more       one number more
+--   numbered_all              all of them
 use Prim.Native.Nat.{ℕ, ◌+◌, ◌<◌, ◌≤◌}
 use mathlib.Core.Path.{◌≡◌, refl, sym, ap, ◌∙◌}
 use mathlib.Core.List.{List}
 use lib.ListN.{set}
 use native.Mathlib.Omega.{arith}
-use Rattle.lists.proofs.Filling.{Filling, filling-more}
+use Rattle.lists.proofs.Filling.{Filling, filling_more}
 use Rattle.model.specs.declared.Source.{Source}
 use Rattle.model.specs.declared.Core.{Core}
 use Rattle.model.specs.Records.{max_sources, max_cores, no_source, no_core}
@@ -31,18 +31,18 @@ module _ (b : List ℕ) where
       {k v : ℕ} {c : Core} {keys : List ℕ} → Keys k keys → k < max_cores → c ≡ core_from b (core_place k) → v ≡ key_at k c →
       Keys (k + 1) (set keys k v)
   key_more {k} {v} filled k_lt read is =
-      filling-more key_at no_core (state_from b).cores filled k_lt v (is ∙ ap (key_at k) (read ∙ sym (core_read b k k_lt)))
+      filling_more key_at no_core (state_from b).cores filled k_lt v (is ∙ ap (key_at k) (read ∙ sym (core_read b k k_lt)))
 
-  pub rank-more :
+  pub rank_more :
       {i v : ℕ} {r : Source} {ranks : List ℕ} → Ranks i ranks → i < max_sources → r ≡ source_from b (source_place i) → v ≡ rank_at i r →
       Ranks (i + 1) (set ranks i v)
-  rank-more {i} {v} filled i_lt read is =
-      filling-more rank_at no_source (state_from b).sources filled i_lt v (is ∙ ap (rank_at i) (read ∙ sym (source_read b i i_lt)))
+  rank_more {i} {v} filled i_lt read is =
+      filling_more rank_at no_source (state_from b).sources filled i_lt v (is ∙ ap (rank_at i) (read ∙ sym (source_read b i i_lt)))
 
-  pub numbered-all :
+  pub numbered_all :
       {k i : ℕ} {keys ranks : List ℕ} → Keys k keys → (state_from b).m ≤ k → Ranks i ranks → (state_from b).n ≤ i →
       Numbered (state_from b) keys ranks
-  numbered-all keyed all-cores ranked all-sources =
+  numbered_all keyed all-cores ranked all-sources =
       record {
         keyed = λ j h. keyed.filled j (omega arith);
         keys_length = keyed.whole;

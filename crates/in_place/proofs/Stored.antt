@@ -1,10 +1,10 @@
 -- What is held after each store: bytes and numbers stay those of a state. Assumes nothing.
 --   held_first                        a host's bytes hold the state that they encode
 --   held_back, held_here              the state that is held is the one that is read
---   held-source, held-core            one record stored, with its number
+--   held_source, held_core            one record stored, with its number
 --   read_source, read_core            one record read
---   back_empty, back-filled           a request put back
---   held-retracted, held-delivered    a retraction and a delivery
+--   back_empty, back_filled           a request put back
+--   held_retracted, held_delivered    a retraction and a delivery
 use Prim.Native.Nat.{ℕ, suc, ◌+◌, ◌-◌, ◌<◌}
 use mathlib.Core.Path.{◌≡◌, refl, sym, ap, subst, ◌∙◌}
 use mathlib.Core.List.{List}
@@ -20,11 +20,11 @@ use Rattle.model.specs.declared.Controller.{Controller}
 use Rattle.model.specs.Records.{max_sources, max_cores, no_source, no_core, source_id, empty_box, with_delivered, holding, core_with, source_at}
 use Rattle.model.specs.Records.{core_at, with_source, with_sources, with_core}
 use Rattle.model.specs.Settling.{put_back, retract, deliver}
-use Rattle.lists.proofs.Filling.{filled-written}
+use Rattle.lists.proofs.Filling.{filled_written}
 use Rattle.arbitration.specs.Places.{key_at, rank_at}
 use Rattle.layout.specs.Bytes.{source_bytes, core_bytes, state_size, is_state, source_from, core_from, state_from}
 use Rattle.layout.specs.Statements.{AreBytes}
-use Rattle.layout.proofs.InPlace.{source_in_place, core_in_place, source-stored, core-stored}
+use Rattle.layout.proofs.InPlace.{source_in_place, core_in_place, source_stored, core_stored}
 use Rattle.layout.proofs.Octets.{bytes_fit}
 use Rattle.layout.proofs.RoundTrip.{state_length, state_read_back, bytes_written_back}
 use Rattle.in_place.specs.Held.{source_place, core_place, Numbered, Held, NamesSource, PutsBack}
@@ -46,13 +46,13 @@ module _ {s : Controller} {b keys ranks : List ℕ} (h : Held s b keys ranks) wh
   held_length = ap length h.bytes_are ∙ state_length s h.sized
 
   -- one record, and its number
-  pub held-source :
+  pub held_source :
       (i : ℕ) → i < max_sources → (r : Source) {b' ranks' : List ℕ} → b' ≡ sets b (source_place i) (source_bytes r) →
       ranks' ≡ set ranks i (rank_at i r) → Held (with_source s i r) b' keys ranks'
-  held-source i i_lt r {b'} {ranks'} eb er =
+  held_source i i_lt r {b'} {ranks'} eb er =
       record {
         bytes_are =
-            eb ∙ ap (λ (l : List ℕ). sets l (source_place i) (source_bytes r)) h.bytes_are ∙ source-stored s h.sized i r i_lt;
+            eb ∙ ap (λ (l : List ℕ). sets l (source_place i) (source_bytes r)) h.bytes_are ∙ source_stored s h.sized i r i_lt;
         sized = record { sources = length-set s.sources i r ∙ h.sized.sources; cores = h.sized.cores };
         numbered =
             record {
@@ -60,25 +60,25 @@ module _ {s : Controller} {b keys ranks : List ℕ} (h : Held s b keys ranks) wh
               keys_length = h.numbered.keys_length;
               ranked =
                   rw er
-                  (filled-written rank_at no_source s.sources s.n ranks h.numbered.ranked i r (rank_at i r)
+                  (filled_written rank_at no_source s.sources s.n ranks h.numbered.ranked i r (rank_at i r)
                   (omega (arith, i_lt, h.sized.sources)) (omega (arith, i_lt, h.numbered.ranks_length)) refl);
               ranks_length = ap length er ∙ length-set ranks i (rank_at i r) ∙ h.numbered.ranks_length;
             };
       }
 
-  pub held-core :
+  pub held_core :
       (k : ℕ) → k < max_cores → (c : Core) {b' keys' : List ℕ} → b' ≡ sets b (core_place k) (core_bytes c) →
       keys' ≡ set keys k (key_at k c) → Held (with_core s k c) b' keys' ranks
-  held-core k k_lt c {b'} {keys'} eb ek =
+  held_core k k_lt c {b'} {keys'} eb ek =
       record {
         bytes_are =
-            eb ∙ ap (λ (l : List ℕ). sets l (core_place k) (core_bytes c)) h.bytes_are ∙ core-stored s h.sized k c k_lt;
+            eb ∙ ap (λ (l : List ℕ). sets l (core_place k) (core_bytes c)) h.bytes_are ∙ core_stored s h.sized k c k_lt;
         sized = record { sources = h.sized.sources; cores = length-set s.cores k c ∙ h.sized.cores };
         numbered =
             record {
               keyed =
                   rw ek
-                  (filled-written key_at no_core s.cores s.m keys h.numbered.keyed k c (key_at k c)
+                  (filled_written key_at no_core s.cores s.m keys h.numbered.keyed k c (key_at k c)
                   (omega (arith, k_lt, h.sized.cores)) (omega (arith, k_lt, h.numbered.keys_length)) refl);
               keys_length = ap length ek ∙ length-set keys k (key_at k c) ∙ h.numbered.keys_length;
               ranked = h.numbered.ranked;
@@ -96,16 +96,16 @@ module _ {s : Controller} {b keys ranks : List ℕ} (h : Held s b keys ranks) wh
   pub back_empty : (box : MessageBox) → box.filled ≡ false → Held (with_sources s (put_back box s.sources)) b keys ranks
   back_empty box f = rw f h
 
-  pub back-filled :
+  pub back_filled :
       (box : MessageBox) → NamesSource box → box.filled ≡ true → {r q : Source} {b' ranks' : List ℕ} →
       r ≡ source_from b (source_place (box.source.0 - 1)) → q ≡ with_delivered false r →
       b' ≡ sets b (source_place (box.source.0 - 1)) (source_bytes q) →
       ranks' ≡ set ranks (box.source.0 - 1) (rank_at (box.source.0 - 1) q) →
       Held (with_sources s (put_back box s.sources)) b' keys ranks'
-  back-filled box names f {r} {q} {b'} {ranks'} er eq eb ek =
+  back_filled box names f {r} {q} {b'} {ranks'} er eq eb ek =
       let in_array : box.source.0 - 1 < max_sources = omega (arith, names f) in
       let new : q ≡ with_delivered false (source_at s (box.source.0 - 1)) = eq ∙ ap (with_delivered false) (er ∙ read_source _ in_array) in
-      let stored : Held (with_source s (box.source.0 - 1) q) b' keys ranks' = held-source (box.source.0 - 1) in_array q eb ek in
+      let stored : Held (with_source s (box.source.0 - 1) q) b' keys ranks' = held_source (box.source.0 - 1) in_array q eb ek in
       rw (f, ← sub-one box.source.0) (rw new at stored)
 
 -- ---- a retraction and a delivery, from what each store leaves
@@ -115,24 +115,24 @@ module _ {s : Controller} {b keys ranks b₁ ranks₁ : List ℕ} {k : ℕ} {c :
   waits : Held (with_sources s (put_back (core_at s k).message s.sources)) b₁ keys ranks₁
   waits = rw is at (back s keys h)
 
-  pub held-retracted :
+  pub held_retracted :
       {d : Core} {b₂ keys₂ : List ℕ} → d ≡ core_with c.configured empty_box → b₂ ≡ sets b₁ (core_place k) (core_bytes d) →
       keys₂ ≡ set keys k (key_at k d) → Held (retract s k) b₂ keys₂ ranks₁
   unfolding retract
-  held-retracted {d} {b₂} {keys₂} new eb ek =
+  held_retracted {d} {b₂} {keys₂} new eb ek =
       let made : d ≡ core_with (core_at s k).configured empty_box = new ∙ ap (λ (e : Core). core_with e.configured empty_box) is in
-      held-core waits k k_lt (core_with (core_at s k).configured empty_box) (rw made at eb) (rw made at ek)
+      held_core waits k k_lt (core_with (core_at s k).configured empty_box) (rw made at eb) (rw made at ek)
 
-  pub held-delivered :
+  pub held_delivered :
       {i : ℕ} → i < max_sources → {r q : Source} {d : Core} {b₂ ranks₂ b₃ keys₃ : List ℕ} → r ≡ source_at s i → q ≡ with_delivered true r →
       b₂ ≡ sets b₁ (source_place i) (source_bytes q) → ranks₂ ≡ set ranks₁ i (rank_at i q) →
       d ≡ core_with c.configured (holding (source_id (i + 1)) r.priority) →
       b₃ ≡ sets b₂ (core_place k) (core_bytes d) → keys₃ ≡ set keys k (key_at k d) → Held (deliver s i k) b₃ keys₃ ranks₂
   unfolding deliver
-  held-delivered {i} i_lt {r} {q} {d} at_i new eb er taken eb₃ ek =
+  held_delivered {i} i_lt {r} {q} {d} at_i new eb er taken eb₃ ek =
       let made : q ≡ with_delivered true (source_at s i) = new ∙ ap (with_delivered true) at_i in
       let filled : d ≡ core_with (core_at s k).configured (holding (source_id (suc i)) (source_at s i).priority)
       = rw (taken, is, at_i, add-one i) in
       let marked : Held (with_sources s (set (put_back (core_at s k).message s.sources) i (with_delivered true (source_at s i)))) _ keys _
-      = held-source waits i i_lt (with_delivered true (source_at s i)) (rw made at eb) (rw made at er) in
-      held-core marked k k_lt _ (rw filled at eb₃) (rw filled at ek)
+      = held_source waits i i_lt (with_delivered true (source_at s i)) (rw made at eb) (rw made at er) in
+      held_core marked k k_lt _ (rw filled at eb₃) (rw filled at ek)

@@ -1,6 +1,6 @@
 -- Items of five bytes in a row, read at a place i: one item and those behind it, or none. Over any reader. Assumes nothing.
---   read_at, fives-read    what the five bytes at i give, and the same from its words
---   fives-there           the items from i on: what the bytes there give before the rest, or none
+--   read_at, fives_read    what the five bytes at i give, and the same from its words
+--   fives_there           the items from i on: what the bytes there give before the rest, or none
 --   fives_end             no byte is left
 --   fives_length          an item takes five bytes
 use Prim.Native.Nat.{ℕ, suc, ◌+◌, ◌*◌, ◌<◌, ◌≤◌}
@@ -49,15 +49,15 @@ module _ {A : Type 0} (read : ℕ → ℕ → ℕ → List A) where
   read_at l i = read (get_or l i 0) (word_at l (i + 1)) (word_at l (i + 3))
 
   module _ (l : List ℕ) (i : ℕ) where
-    pub fives-read :
+    pub fives_read :
         {x y : ℕ} {xs : List A} → x ≡ word_at l (i + 1) → y ≡ word_at l (i + 3) → read (get_or l i 0) x y ≡ xs → read_at l i ≡ xs
-    fives-read ex ey e = rw (← ex, ← ey) e
+    fives_read ex ey e = rw (← ex, ← ey) e
 
-    pub fives-there :
+    pub fives_there :
         {xs : List A} → i + command_size ≤ length l → read_at l i ≡ xs →
         in_fives read (drop i l) ≡ or_end xs (in_fives read (drop (i + command_size) l))
     unfolding in_fives
-    fives-there h e =
+    fives_there h e =
         ap (in_fives read) (five l i h) ∙ ap (λ (xs : List A). or_end xs (in_fives read (drop (i + command_size) l))) e
 
     pub fives_end : length l ≤ i → in_fives read (drop i l) ≡ []

@@ -1,7 +1,7 @@
 -- One record of a state's bytes, read and written where it lies. Assumes nothing.
 --   source_read, core_read            the state that bytes encode has the records that are read at their places
 --   source_in_place, core_in_place    what is read at its place is the record
---   source-stored, core-stored        its bytes stored there leave the bytes of the state with that record
+--   source_stored, core_stored        its bytes stored there leave the bytes of the state with that record
 use Prim.Native.Nat.{ℕ, ◌+◌, ◌*◌, ◌<◌}
 use mathlib.Core.Path.{◌≡◌, refl, ap, ◌∙◌}
 use mathlib.Core.List.{List, ◌++◌}
@@ -18,7 +18,7 @@ use Rattle.layout.specs.Bytes.{word, source_size, core_size, sources_from, cores
 use Rattle.layout.specs.Bytes.{core_from, state_from}
 use Rattle.layout.specs.Statements.{Sized}
 use Rattle.layout.proofs.Records.{source_back, core_back}
-use Rattle.layout.proofs.RoundTrip.{sources_length, source-there, core-there}
+use Rattle.layout.proofs.RoundTrip.{sources_length, source_there, core_there}
 
 module _ (b : List ℕ) where
   pub source_read : (i : ℕ) → i < max_sources → source_at (state_from b) i ≡ source_from b (sources_from + source_size * i)
@@ -40,27 +40,27 @@ module _ (s : Controller) (sized : Sized s) where
   cores = joined core_bytes s.cores
 
   pub source_in_place : (i : ℕ) → i < max_sources → source_from (state_bytes s) (sources_from + source_size * i) ≡ source_at s i
-  source_in_place i h = source_back (state_bytes s) _ (sources_from + source_size * i) (source_at s i) (source-there s sized i h)
+  source_in_place i h = source_back (state_bytes s) _ (sources_from + source_size * i) (source_at s i) (source_there s sized i h)
 
   pub core_in_place : (k : ℕ) → k < max_cores → core_from (state_bytes s) (cores_from + core_size * k) ≡ core_at s k
-  core_in_place k h = core_back (state_bytes s) _ (cores_from + core_size * k) (core_at s k) (core-there s sized k h)
+  core_in_place k h = core_back (state_bytes s) _ (cores_from + core_size * k) (core_at s k) (core_there s sized k h)
 
-  pub source-stored :
+  pub source_stored :
       (i : ℕ) (r : Source) → i < max_sources →
       sets (state_bytes s) (sources_from + source_size * i) (source_bytes r) ≡ state_bytes (with_source s i r)
   unfolding state_bytes
-  source-stored i r h =
+  source_stored i r h =
       sets_behind sizes (sources ++ cores) (source_bytes r) (source_size * i) (sources_from + source_size * i) refl ∙
       ap (λ (l : List ℕ). sizes ++ l)
       (sets_front sources cores (source_bytes r) (source_size * i) (omega (arith, sources_length s sized)) ∙
       ap (λ (l : List ℕ). l ++ cores)
       (sets_joined source_bytes source_size (λ x. refl) s.sources i (source_size * i) r (omega (arith, sized.sources)) refl))
 
-  pub core-stored :
+  pub core_stored :
       (k : ℕ) (c : Core) → k < max_cores →
       sets (state_bytes s) (cores_from + core_size * k) (core_bytes c) ≡ state_bytes (with_core s k c)
   unfolding state_bytes
-  core-stored k c h =
+  core_stored k c h =
       sets_behind sizes (sources ++ cores) (core_bytes c) (source_size * max_sources + core_size * k) (cores_from + core_size * k)
       (omega arith) ∙
       ap (λ (l : List ℕ). sizes ++ l)

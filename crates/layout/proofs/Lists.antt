@@ -17,7 +17,7 @@ use native.Mathlib.Omega.{arith}
 use borrow.Author.Tests.{eq-eqb, ne_eqb, le-leb, lt-leb, eqb-true, leb-true}
 use Rattle.lists.proofs.Bools.{and_l, and_r, and_in, Flag, on, off, flag}
 use Rattle.layout.specs.Bytes.{command_size, answer_size, in_fives, room_for}
-use Rattle.layout.proofs.Fives.{fives_length, read_at, fives-there, fives_end}
+use Rattle.layout.proofs.Fives.{fives_length, read_at, fives_there, fives_end}
 use Rattle.layout.proofs.Machines.{Machine, Taken, taken_none, taken_more, taken_all}
 
 -- ---- whether a list is whole and its answers have room
@@ -104,7 +104,7 @@ module _
       {answers' xs : List ℕ} {s' : S} {c : C} → i < length list → read_at read list i ≡ c ∷ [] → s' ≡ M.next s c →
       answers' ≡ sets answers i xs → xs ≡ M.says s c → RunTo read M list answers₀ s₀ answers' s' (i + command_size)
   run_more {c = c} h ec es ea ex =
-      let items : left read list i ≡ c ∷ left read list (i + command_size) = fives-there read list i (more_left h) ec in
+      let items : left read list i ≡ c ∷ left read list (i + command_size) = fives_there read list i (more_left h) ec in
       record {
         within = more_left h;
         whole = t.whole;
@@ -128,4 +128,4 @@ module _
   run_end h = ran (fives_end read list i h)
 
   pub run_stop : i < length list → read_at read list i ≡ [] → Ran read M list answers₀ s₀ (i / command_size) answers s
-  run_stop h e = ran (fives-there read list i (more_left h) e)
+  run_stop h e = ran (fives_there read list i (more_left h) e)

@@ -1,6 +1,6 @@
 -- Lists of items under any machine that answers each item by five bytes, taken one at a time. Assumes nothing.
 --   Machine S C              states S, items C: a step, what it says, and lists of items under it, which are taken `OneByOne`
---   answers_length, answers-in-front    a list's answers are five bytes each; written in front of a buffer, they leave what is behind them
+--   answers_length, answers_in_front    a list's answers are five bytes each; written in front of a buffer, they leave what is behind them
 --   Taken                    a part of a list is taken: the rest, run from the state reached, ends as the whole does from the start, and
 --                            the rest's answers, put behind those so far, give the answers of the whole
 --   taken_none, taken_more   nothing is taken; one more item is taken
@@ -12,7 +12,7 @@ use lib.ListN.{length, drop, length-append}
 use lib.Seq.{sets, sets-eq, length-sets}
 use native.Mathlib.Omega.{arith}
 use Rattle.layout.specs.Bytes.{answer_size}
-use Rattle.lists.proofs.Writes.{sets-append}
+use Rattle.lists.proofs.Writes.{sets_append}
 
 -- a list's last state and its answers are those of its items, one behind the other
 pub record OneByOne
@@ -39,10 +39,10 @@ module _ {S C : Type 0} (M : Machine S C) where
       ap length (M.one_by_one.answers_more s c cs) ∙ length-append (M.says s c) (M.answers (M.next s c) cs)
       ∙ omega (arith, M.one_by_one.five s c, answers_length (M.next s c) cs)
 
-  pub answers-in-front :
+  pub answers_in_front :
       (buffer : List ℕ) (s : S) (cs : List C) → answer_size * length cs ≤ length buffer →
       sets buffer 0 (M.answers s cs) ≡ M.answers s cs ++ drop (answer_size * length cs) buffer
-  answers-in-front buffer s cs h =
+  answers_in_front buffer s cs h =
       let size : 0 + length (M.answers s cs) ≡ answer_size * length cs = omega (arith, answers_length s cs) in
       sets-eq (M.answers s cs) buffer 0 (omega (arith, size)) ∙ ap (λ (k : ℕ). M.answers s cs ++ drop k buffer) size
 
@@ -71,7 +71,7 @@ module _
         runs = ap (λ (x : S). M.run x rest) es ∙ sym (ap (M.run s) e ∙ M.one_by_one.run_more s c rest) ∙ t.runs;
         written =
             rw (es, ea, ex)
-            (sets-append answers i i' (M.says s c) (M.answers (M.next s c) rest) (omega (arith, M.one_by_one.five s c))
+            (sets_append answers i i' (M.says s c) (M.answers (M.next s c) rest) (omega (arith, M.one_by_one.five s c))
             ∙ ap (sets answers i) (sym (ap (M.answers s) e ∙ M.one_by_one.answers_more s c rest)) ∙ t.written);
       }
 

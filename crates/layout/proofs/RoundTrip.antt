@@ -40,12 +40,12 @@ module _ (s : Controller) (sized : Sized s) where
   state_length = rw (length-append (joined source_bytes s.sources) (joined core_bytes s.cores), sources_length, cores_length)
 
   -- what stands where source i and core k begin
-  pub source-there :
+  pub source_there :
       (i : ℕ) → i < max_sources →
       drop (sources_from + source_size * i) (state_bytes s)
       ≡ source_bytes (source_at s i) ++ (joined source_bytes (drop (suc i) s.sources) ++ joined core_bytes s.cores)
   unfolding state_bytes
-  source-there i h =
+  source_there i h =
       record_at source_bytes source_size (λ r. refl) (state_bytes s) sources_from s.sources (joined core_bytes s.cores) i no_source refl
       (omega (arith, sized.sources))
 
@@ -55,10 +55,10 @@ module _ (s : Controller) (sized : Sized s) where
       drop_at (joined source_bytes s.sources) (joined core_bytes s.cores) (source_size * max_sources) sources_length
       ∙ sym (append-nil (joined core_bytes s.cores))
 
-  pub core-there :
+  pub core_there :
       (k : ℕ) → k < max_cores →
       drop (cores_from + core_size * k) (state_bytes s) ≡ core_bytes (core_at s k) ++ (joined core_bytes (drop (suc k) s.cores) ++ [])
-  core-there k h =
+  core_there k h =
       record_at core_bytes core_size (λ c. refl) (state_bytes s) cores_from s.cores [] k no_core cores_there (omega (arith, sized.cores))
 
 pub state_read_back : StateReadBack
@@ -77,12 +77,12 @@ state_read_back s sized = λ t. record { n = n t; m = m t; sources = sources t; 
     sources : tabulated max_sources (source_of b) ≡ s.sources
     sources =
         tabulated_all max_sources (source_of b) s.sources no_source sized.sources
-        (λ i h. source_back b _ (sources_from + source_size * i) (source_at s i) (source-there s sized i h))
+        (λ i h. source_back b _ (sources_from + source_size * i) (source_at s i) (source_there s sized i h))
 
     cores : tabulated max_cores (core_of b) ≡ s.cores
     cores =
         tabulated_all max_cores (core_of b) s.cores no_core sized.cores
-        (λ k h. core_back b _ (cores_from + core_size * k) (core_at s k) (core-there s sized k h))
+        (λ k h. core_back b _ (cores_from + core_size * k) (core_at s k) (core_there s sized k h))
 
 is_encoded : (s : Controller) → Sized s → is_state (state_bytes s) ≡ true
 unfolding is_state
@@ -95,12 +95,12 @@ is_encoded s sized =
     sources : every max_sources (source_flags_of b) ≡ true
     sources =
         every_in max_sources (source_flags_of b)
-        (λ i h. source_flagged b _ (sources_from + source_size * i) (source_at s i) (source-there s sized i h))
+        (λ i h. source_flagged b _ (sources_from + source_size * i) (source_at s i) (source_there s sized i h))
 
     cores : every max_cores (core_flags_of b) ≡ true
     cores =
         every_in max_cores (core_flags_of b)
-        (λ k h. core_flagged b _ (cores_from + core_size * k) (core_at s k) (core-there s sized k h))
+        (λ k h. core_flagged b _ (cores_from + core_size * k) (core_at s k) (core_there s sized k h))
 
 pub state_encoded : StateEncoded
 state_encoded s sized = (is_encoded s sized, state_bytes_lem s)
@@ -112,17 +112,17 @@ parts : (b : List ℕ) (from n m : ℕ) → take n (drop from b) ++ take m (drop
 parts b from n m = rw (take-add n m (drop from b), drop-drop n from b)
 
 module _ (b : List ℕ) (are : (i : ℕ) → get_or b i 0 < 256) (size : length b ≡ state_size) where
-  sources-part :
+  sources_part :
       every max_sources (source_flags_of b) ≡ true →
       joined source_bytes (tabulated max_sources (source_of b)) ≡ take (source_size * max_sources) (drop sources_from b)
-  sources-part e =
+  sources_part e =
       joined_tabulated source_bytes (source_of b) source_size sources_from b max_sources
       (λ i h. source_part b are (sources_from + source_size * i) (omega arith) (every_out max_sources (source_flags_of b) e i h))
 
-  cores-part :
+  cores_part :
       every max_cores (core_flags_of b) ≡ true →
       joined core_bytes (tabulated max_cores (core_of b)) ≡ take (core_size * max_cores) (drop cores_from b)
-  cores-part e =
+  cores_part e =
       joined_tabulated core_bytes (core_of b) core_size cores_from b max_cores
       (λ k h. core_part b are (cores_from + core_size * k) (omega arith) (every_out max_cores (core_flags_of b) e k h))
 
@@ -131,7 +131,7 @@ module _ (b : List ℕ) (are : (i : ℕ) → get_or b i 0 < 256) (size : length 
   unfolding state_bytes state_from
   written_back es ec =
       ap (λ (l : List ℕ). word (word_at b 0) ++ (word (word_at b 2) ++ l))
-      (ap₂ ◌++◌ (sources-part es) (cores-part ec) ∙ parts b sources_from (source_size * max_sources) (core_size * max_cores))
+      (ap₂ ◌++◌ (sources_part es) (cores_part ec) ∙ parts b sources_from (source_size * max_sources) (core_size * max_cores))
       ∙ ap (λ (l : List ℕ). word (word_at b 0) ++ (l ++ take (state_size - 4) (drop 4 b))) (word_part b are 2 (omega arith))
       ∙ ap (λ (l : List ℕ). word (word_at b 0) ++ l) (parts b 2 2 (state_size - 4))
       ∙ ap (λ (l : List ℕ). l ++ take (state_size - 2) (drop 2 b)) (word_part b are 0 (omega arith))

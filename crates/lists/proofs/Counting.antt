@@ -6,7 +6,7 @@
 --   reach t x        1 if x is at or above t, else 0
 --   reached m t f    how many of f 0, .., f (m - 1) are at or above t
 --   reached_le       at most m; `reached_all`: m, if all are
---   reached-more     a row has more than another if it reaches wherever the other does, and at a place where the other doesn't
+--   reached_more     a row has more than another if it reaches wherever the other does, and at a place where the other doesn't
 use Prim.Native.Nat.{ℕ, zero, suc, ◌+◌, ◌<◌, ◌≤◌}
 use mathlib.Core.Path.{◌≡◌, refl}
 use mathlib.Core.Bool.{Bool, cond}
@@ -103,8 +103,8 @@ reached_all (suc k) t f h =
     omega (arith, reach_up t (f k) (h k (omega arith)), reached_all k t f (λ i p. h i (omega arith)))
 
 module _ (t t' : ℕ) (f g : ℕ → ℕ) where
-  pub reached-more :
+  pub reached_more :
       (m : ℕ) → ((k : ℕ) → k < m → t ≤ f k → t' ≤ g k) → (k : ℕ) → k < m → f k < t → t' ≤ g k → reached m t f < reached m t' g
-  reached-more m covers k p q r =
+  reached_more m covers k p q r =
       total_lt (λ j. reach t (f j)) (λ j. reach t' (g j)) m (λ j u. reach_mono t t' (f j) (g j) (covers j u)) k p
       (omega (arith, reach_under t (f k) q, reach_up t' (g k) r))

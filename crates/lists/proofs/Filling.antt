@@ -1,11 +1,11 @@
 -- A list filled from the front: something is written to one element after another. Assumes nothing.
 --   Filled P Q d size i l          a list of that size: P holds of each of the first i elements, Q of each of the others
 --   filled_none, filled_more       nothing is written; the next element is
---   filled-tabulated               all are written: the list of a function's values
+--   filled_tabulated               all are written: the list of a function's values
 --   get_or-zeros, filled_zeros       a row of zeros, also past its end; all are written by 0
 --   Filling f d l size i ks        a row of numbers filled so, one for each element of l (`FilledBy`)
---   filling_none, filling-more     the same of such a row
---   filled-written                 an element and its number written at the same index
+--   filling_none, filling_more     the same of such a row
+--   filled_written                 an element and its number written at the same index
 use Prim.Native.Nat.{ℕ, zero, suc, ◌+◌, ◌<◌, ◌≤◌}
 use mathlib.Core.Path.{◌≡◌, refl, sym, ◌∙◌}
 use mathlib.Core.List.{List}
@@ -49,9 +49,9 @@ abbrev pub ValueOf : {A : Type 0} → (ℕ → A) → ℕ → A → Type 0
 ValueOf f j x = x ≡ f j
 
 module _ {A : Type 0} (d : A) where
-  pub filled-tabulated :
+  pub filled_tabulated :
       (f : ℕ → A) {size i : ℕ} {l : List A} → Filled (ValueOf f) Anything d size i l → size ≤ i → l ≡ tabulated size f
-  filled-tabulated f {size} {i} {l} r h = sym (tabulated_all size f l d r.whole (λ j p. sym (r.filled j (omega arith))))
+  filled_tabulated f {size} {i} {l} r h = sym (tabulated_all size f l d r.whole (λ j p. sym (r.filled j (omega arith))))
 
 pub get_or-zeros : (n i : ℕ) → get_or {A = ℕ} (replicate n 0) i 0 ≡ 0
 get_or-zeros zero i = refl
@@ -85,17 +85,17 @@ module _ {A : Type 0} (f : ℕ → A → ℕ) (d : A) (l : List A) where
   pub filling_none : (size : ℕ) → Filling f d l size 0 (replicate size 0)
   filling_none size = filling_begin (length-replicate size 0)
 
-  pub filling-more :
+  pub filling_more :
       {size i : ℕ} {ks : List ℕ} → Filling f d l size i ks → i < size → (v : ℕ) → v ≡ f i (get_or l i d) →
       Filling f d l size (i + 1) (set ks i v)
-  filling-more {size} {i} {ks} r h v e =
+  filling_more {size} {i} {ks} r h v e =
       let row : Row size i ks = record { whole = r.whole; filled = r.filled; rest = λ j p. tt } in
       filling (filled_more Number Anything 0 row h v e)
 
-  pub filled-written :
+  pub filled_written :
       (n : ℕ) (ks : List ℕ) → FilledBy f d l n ks → (i : ℕ) (x : A) (v : ℕ) → i < length l → i < length ks → v ≡ f i x →
       FilledBy f d (set l i x) n (set ks i v)
-  filled-written n ks filled i x v in_List in_row e j h = go (ℕ_discrete j i)
+  filled_written n ks filled i x v in_List in_row e j h = go (ℕ_discrete j i)
     where
       go : Dec (j ≡ i) → get_or (set ks i v) j 0 ≡ f j (get_or (set l i x) j d)
       go (yes p) = rw (p, get_or-set_same ks i v 0 in_row, get_or-set_same l i x d in_List) e

@@ -3,7 +3,7 @@
 --   halved_enough, halved_node      every bound on the depth that is enough makes the same tree; that of a range has those of its halves
 --   ranges_halves                   so the list of its ranges has theirs
 --   occupied_single                 the count for one such number
---   occupied-node                   the count for a range that has such a number, from those for its halves
+--   occupied_node                   the count for a range that has such a number, from those for its halves
 --   occupied_cong                   tests that agree inside the range
 --   occupied_none, occupied_some    no such number: 0; some: at least 1
 --   occupied_all, occupied_size     all are: one less than twice the length, and it is never more
@@ -91,20 +91,20 @@ module _ (f : ℕ → Bool) where
   unfolding occupied
   occupied_one lo = filter_first (within f) (lo, 1) [] ∙ omega arith
 
-  occupied-halves :
+  occupied_halves :
       (lo len : ℕ) → 2 ≤ len →
       occupied f lo len ≡ cond (within f (lo, len)) 1 0 + (occupied f lo (left_half len) + occupied f (lo + left_half len) (len / 2))
   unfolding occupied
-  occupied-halves lo len h =
+  occupied_halves lo len h =
       let left : List (ℕ × ℕ) = ranges lo (left_half len) in
       let right : List (ℕ × ℕ) = ranges (lo + left_half len) (len / 2) in
       rw (ranges_halves lo len h, filter_first (within f) (lo, len) (left ++ right), filter_append (within f) left right)
 
   -- a range with such a number is counted itself
-  pub occupied-node :
+  pub occupied_node :
       (lo len : ℕ) → 2 ≤ len → within f (lo, len) ≡ true →
       occupied f lo len ≡ 1 + (occupied f lo (left_half len) + occupied f (lo + left_half len) (len / 2))
-  occupied-node lo len h e = rw e at (occupied-halves lo len h)
+  occupied_node lo len h e = rw e at (occupied_halves lo len h)
 
   pub occupied_single : (lo : ℕ) → within f (lo, 1) ≡ true → occupied f lo 1 ≡ 1
   occupied_single lo e = rw e at (occupied_one lo)
@@ -112,7 +112,7 @@ module _ (f : ℕ → Bool) where
   pub occupied_some : (lo len : ℕ) → within f (lo, len) ≡ true → 1 ≤ occupied f lo len
   occupied_some lo zero e = absurd (omega (arith, within_rise f lo 0 e, ap (λ (i : ℕ). tally i f) (add-zero lo)))
   occupied_some lo (suc zero) e = omega (arith, occupied_single lo e)
-  occupied_some lo (suc (suc k)) e = omega (arith, occupied-node lo (suc (suc k)) (omega arith) e)
+  occupied_some lo (suc (suc k)) e = omega (arith, occupied_node lo (suc (suc k)) (omega arith) e)
 
   -- ---- how large the count is
 
@@ -122,7 +122,7 @@ module _ (f : ℕ → Bool) where
       (λ lo h. absurd (omega arith))
       (λ lo h. omega (arith, occupied_one lo, one_le (within f (lo, 1))))
       (λ lo len h left right g.
-      omega (arith, occupied-halves lo len h, one_le (within f (lo, len)), left (omega arith), right (omega arith)))
+      omega (arith, occupied_halves lo len h, one_le (within f (lo, len)), left (omega arith), right (omega arith)))
 
   pub occupied_all : (lo len : ℕ) → 1 ≤ len → ((i : ℕ) → lo ≤ i → i < lo + len → f i ≡ true) → occupied f lo len + 1 ≡ len + len
   occupied_all =
@@ -133,7 +133,7 @@ module _ (f : ℕ → Bool) where
       (λ lo len h left right g all.
       omega (
         arith,
-        occupied-node lo len h (held lo len g all),
+        occupied_node lo len h (held lo len g all),
         left (omega arith) (λ i p q. all i p (omega arith)),
         right (omega arith) (λ i p q. all i (omega arith) (omega arith)),
       ))
@@ -171,7 +171,7 @@ module _ (f : ℕ → Bool) where
       let first : tally lo f ≤ tally mid f = tally_mono f lo (left_half len) in
       let second : tally mid f ≤ tally (lo + len) f = rw end at (tally_mono f mid (len / 2)) in
       let from : tally (mid + len / 2) f ≡ tally mid f + y = rw end (omega arith) in
-      rw (halved_node lo len h, occupied-halves lo len h)
+      rw (halved_node lo len h, occupied_halves lo len h)
       (path_sum (longest_path (whole lo (left_half len))) (longest_path (whole mid (len / 2))) _ _ _ x y c
       (left x (omega arith)) (right y from) (omega arith) (own_count lo len c e))
 
@@ -191,8 +191,8 @@ occupied_cong f g =
     (λ lo agree. rw (occupied_one f lo, occupied_one g lo, alike lo 1 agree))
     (λ lo len h left right agree.
     rw (
-      occupied-halves f lo len h,
-      occupied-halves g lo len h,
+      occupied_halves f lo len h,
+      occupied_halves g lo len h,
       alike lo len agree,
       left (λ i p q. agree i p (omega arith)),
       right (λ i p q. agree i (omega arith) (omega arith)),

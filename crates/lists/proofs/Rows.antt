@@ -42,22 +42,22 @@ module _ {A : Type 0} (f : A → List ℕ) (w : ℕ) (size : (x : A) → length 
   length_joined (x ∷ l) = rw (length-append (f x) (joined f l), size x, length_joined l, mul-suc) (add_comm w (w * length l))
 
   -- behind i records stands the next one
-  drop-joined :
+  drop_joined :
       (l : List A) (rest : List ℕ) (i : ℕ) (d : A) → i < length l →
       drop (w * i) (joined f l ++ rest) ≡ f (get_or l i d) ++ (joined f (drop (suc i) l) ++ rest)
   unfolding joined
-  drop-joined [] rest i d h = absurd (not-suc-le-zero h)
-  drop-joined (x ∷ l) rest zero d h = rw mul-zero (append_assoc (f x) (joined f l) rest)
-  drop-joined (x ∷ l) rest (suc i) d h =
+  drop_joined [] rest i d h = absurd (not-suc-le-zero h)
+  drop_joined (x ∷ l) rest zero d h = rw mul-zero (append_assoc (f x) (joined f l) rest)
+  drop_joined (x ∷ l) rest (suc i) d h =
       let e : w * suc i ≡ length (f x) + w * i = mul-suc w i ∙ add_comm (w * i) w ∙ ap (λ (n : ℕ). n + w * i) (sym (size x)) in
       rw (e, append_assoc (f x) (joined f l) rest)
-      (drop-append-add (f x) (joined f l ++ rest) (w * i) ∙ drop-joined l rest i d (le_of_suc-le-suc h))
+      (drop-append-add (f x) (joined f l ++ rest) (w * i) ∙ drop_joined l rest i d (le_of_suc-le-suc h))
 
   -- record i of a row that stands at a place of b
   pub record_at :
       (b : List ℕ) (from : ℕ) (l : List A) (rest : List ℕ) (i : ℕ) (d : A) → drop from b ≡ joined f l ++ rest → i < length l →
       drop (from + w * i) b ≡ f (get_or l i d) ++ (joined f (drop (suc i) l) ++ rest)
-  record_at b from l rest i d e h = sym (drop-drop (w * i) from b) ∙ ap (drop (w * i)) e ∙ drop-joined l rest i d h
+  record_at b from l rest i d e h = sym (drop-drop (w * i) from b) ∙ ap (drop (w * i)) e ∙ drop_joined l rest i d h
 
 -- ---- rows of one width, joined
 

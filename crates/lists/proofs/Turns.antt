@@ -1,7 +1,7 @@
 -- A loop that tests each record from a first one on, and keeps in a flag whether all have passed. Assumes nothing.
 --   since f from              no number below `from` is tested
 --   since_begin, since_end    the flag where the loop begins, and where all numbers below a bound have been tested
---   since-turn                the flag after one turn, by the test's answer r: failed, passed
+--   since_turn                the flag after one turn, by the test's answer r: failed, passed
 use Prim.Native.Nat.{ℕ, ◌+◌, ◌≤◌}
 use mathlib.Core.Path.{◌≡◌, sym, ◌∙◌, ap}
 use mathlib.Core.Bool.{Bool, true, false, not, ◌||◌, ◌&&◌, and-true, and-false}
@@ -24,11 +24,11 @@ module _ (f : ℕ → Bool) (from k : ℕ) where
     pub since_end : (n : ℕ) → k ≡ n → fresh ≡ every n (since f from)
     since_end n e = p ∙ ap (λ (i : ℕ). every i (since f from)) e
 
-    pub since-turn :
+    pub since_turn :
         from ≤ k → {r : Bool} → r ≡ f k →
         (not r ≡ true → false ≡ every (k + 1) (since f from)) × (not r ≡ false → fresh ≡ every (k + 1) (since f from))
     unfolding every
-    since-turn h {r} e = (λ q. rw (not-true r q, and-false) at turn, λ q. rw (not-false r q, and-true) at turn)
+    since_turn h {r} e = (λ q. rw (not-true r q, and-false) at turn, λ q. rw (not-false r q, and-true) at turn)
       where
         turn : fresh && r ≡ every (k + 1) (since f from)
         turn = rw (add-one, le-ltb k from h, p, e)

@@ -1,9 +1,9 @@
 -- What is read after one element of a list is written, whatever the index read; and runs of stores. Assumes nothing.
 --   read_set        a property of it: of the element written where that is read, else of the element that was there
 --   read_kept       the element written reads as the one before it: what is read stays, past the list's end too
---   read-written    a choice by whether the place written is read, between what the two elements read
---   sets-append     two runs of stores, one right behind the other, are one run
---   sets-before     the same where the one behind is stored first
+--   read_written    a choice by whether the place written is read, between what the two elements read
+--   sets_append     two runs of stores, one right behind the other, are one run
+--   sets_before     the same where the one behind is stored first
 --   take_sets       a run of stores right behind a front makes the front longer
 use Prim.Native.Nat.{ℕ, suc, ◌+◌, ◌<◌, ◌≤◌}
 use mathlib.Core.Path.{◌≡◌, refl, ap, ◌∙◌}
@@ -34,10 +34,10 @@ module _ {A B : Type 0} (read : ℕ → A → B) (l : List A) (i j : ℕ) (a d :
       go (no past) = rw (set_out l i a (omega arith))
 
   -- x and y are equal exactly where the place written is read
-  pub read-written :
+  pub read_written :
       i < length l → (x y : ℕ) → (x ≡ y) ↔ (j ≡ i) → {v u : B} → (j ≡ i → v ≡ read j a) → u ≡ read j (get_or l j d) →
       cond (eqb x y) v u ≡ read j (get_or (set l i a) j d)
-  read-written fits x y place {v} {u} new old =
+  read_written fits x y place {v} {u} new old =
       read_set (λ q. cond (eqb x y) v u ≡ read j q) l i j a d fits
       (λ e. rw (eq-eqb x y (place.1 e)) (new e))
       (λ h. rw (ne_eqb x y (λ e. h (place.0 e))) old)
@@ -45,10 +45,10 @@ module _ {A B : Type 0} (read : ℕ → A → B) (l : List A) (i j : ℕ) (a d :
 -- ---- runs of stores
 
 module _ {A : Type 0} where
-  pub sets-append :
+  pub sets_append :
       (b : List A) (i j : ℕ) (xs ys : List A) → j ≡ i + length xs → sets (sets b i xs) j ys ≡ sets b i (xs ++ ys)
-  sets-append b i j [] ys e = ap (λ (k : ℕ). sets b k ys) (omega arith)
-  sets-append b i j (x ∷ xs) ys e = sets-append (set b i x) (suc i) j xs ys (omega arith)
+  sets_append b i j [] ys e = ap (λ (k : ℕ). sets b k ys) (omega arith)
+  sets_append b i j (x ∷ xs) ys e = sets_append (set b i x) (suc i) j xs ys (omega arith)
 
   set_past : (b xs : List A) (i j : ℕ) (y : A) → i + length xs ≤ j → sets (set b j y) i xs ≡ set (sets b i xs) j y
   set_past b [] i j y h = refl
@@ -60,9 +60,9 @@ module _ {A : Type 0} where
   sets_past b xs (y ∷ ys) i j h =
       sets_past (set b j y) xs ys i (suc j) (omega arith) ∙ ap (λ (l : List A). sets l (suc j) ys) (set_past b xs i j y h)
 
-  pub sets-before :
+  pub sets_before :
       (b : List A) (i j : ℕ) (xs ys : List A) → j ≡ i + length xs → sets (sets b j ys) i xs ≡ sets b i (xs ++ ys)
-  sets-before b i j xs ys e = sets_past b xs ys i j (omega arith) ∙ sets-append b i j xs ys e
+  sets_before b i j xs ys e = sets_past b xs ys i j (omega arith) ∙ sets_append b i j xs ys e
 
   pub take_sets : (l vs : List A) (i : ℕ) → i + length vs ≤ length l → take (i + length vs) (sets l i vs) ≡ take i l ++ vs
   take_sets l vs i h =

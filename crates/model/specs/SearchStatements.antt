@@ -22,7 +22,7 @@ pub record RangeLists : Type 0 where
   pub of_two : ranges 0 2 ≡ (0, 2) ∷ (0, 1) ∷ (1, 1) ∷ []
   pub of_three : ranges 0 3 ≡ (0, 3) ∷ (0, 2) ∷ (0, 1) ∷ (1, 1) ∷ (2, 1) ∷ []
   pub of_five : ranges 0 5 ≡ (0, 5) ∷ (0, 3) ∷ (0, 2) ∷ (0, 1) ∷ (1, 1) ∷ (2, 1) ∷ (3, 2) ∷ (3, 1) ∷ (4, 1) ∷ []
-  pub of-eight :
+  pub of_eight :
       ranges 0 8 ≡
       (0, 8) ∷
       (0, 4) ∷ (0, 2) ∷ (0, 1) ∷ (1, 1) ∷ (2, 2) ∷ (2, 1) ∷ (3, 1) ∷

@@ -129,7 +129,7 @@ LeastIsFirst = (l : List Core) (m : ℕ) → 1 ≤ m → FirstOf (lower l) m (le
 -- Core i is below core j: its current priority is less, or the same, and only i's box is filled.
 pub data Below (l : List Core) (i j : ℕ) : Type 0 where
   less : current_priority (get_or l i no_core) < current_priority (get_or l j no_core) → Below l i j
-  filled-first :
+  filled_first :
       current_priority (get_or l i no_core) ≡ current_priority (get_or l j no_core) → (get_or l i no_core).message.filled ≡ true →
       (get_or l j no_core).message.filled ≡ false → Below l i j
 
@@ -139,7 +139,7 @@ LowerExact = (l : List Core) (i j : ℕ) → (lower l i j ≡ true) ↔ Below l 
 -- Core i goes before core j: it is below, or the two stand alike and its number is lower.
 pub data GoesBefore (l : List Core) (i j : ℕ) : Type 0 where
   below : Below l i j → GoesBefore l i j
-  lower-number :
+  lower_number :
       current_priority (get_or l i no_core) ≡ current_priority (get_or l j no_core) →
       (get_or l i no_core).message.filled ≡ (get_or l j no_core).message.filled → i < j → GoesBefore l i j
 
@@ -155,7 +155,7 @@ pub record HighestCandidate (l : List Source) (n : ℕ) : Type 0 where
   pub highest :
       (w i : ℕ) → highest_id l n ≡ suc w → i < n → candidate (get_or l i no_source) ≡ true →
       (get_or l i no_source).priority ≤ (get_or l w no_source).priority
-  pub lowest-id :
+  pub lowest_id :
       (w i : ℕ) → highest_id l n ≡ suc w → i < w → candidate (get_or l i no_source) ≡ true →
       (get_or l i no_source).priority < (get_or l w no_source).priority
 
@@ -290,7 +290,7 @@ pub record PriorityStrict (n m : ℕ) (b : Ledger) (s : Controller) : Type 0 whe
   pub top_m : sort_down (current_priorities m s) ≡ take m (sort_down (collection n m b s))
   -- the filled boxes are a placement, each with the priority of the request it places
   pub boxes_placed : Placement n m b s (in_boxes s)
-  pub box-priority :
+  pub box_priority :
       (k : ℕ) → k < m → (core_at s k).message.filled ≡ true →
       (1 ≤ (core_at s k).message.source.0) × ((core_at s k).message.priority ≡ request_priority b (core_at s k).message.source.0)
   -- each core's current priority is what that placement gives it: by its box, else by the ledger's configured priority
@@ -299,7 +299,7 @@ pub record PriorityStrict (n m : ℕ) (b : Ledger) (s : Controller) : Type 0 whe
   pub none_higher :
       (P : ℕ → ℕ) → Placement n m b s P → (j : ℕ) → get_or (sort_down (row m (given b P))) j 0 ≤ get_or (sort_down (current_priorities m s)) j 0
   -- no placement with the same current priorities, sorted, gives fewer requests than there are filled boxes
-  pub fewest-boxes :
+  pub fewest_boxes :
       (P : ℕ → ℕ) → Placement n m b s P → sort_down (row m (given b P)) ≡ sort_down (current_priorities m s) → filled_boxes m s ≤ placed_by m P
 
 -- After every list of commands, of any length and with any arguments, refused ones included, from a fresh controller of any size in range.

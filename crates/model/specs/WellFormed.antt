@@ -135,9 +135,9 @@ pub record Consistent (s : Controller) : Type 0 where
   pub sources_length : length s.sources ≡ max_sources
   pub cores_length : length s.cores ≡ max_cores
   pub configured_source : (i : ℕ) → i < s.n → (1 ≤ (source_at s i).configured) × ((source_at s i).configured ≤ top_priority s.n)
-  pub request-range :
+  pub request_range :
       (i : ℕ) → i < s.n → (source_at s i).pending ≡ true → (1 ≤ (source_at s i).priority) × ((source_at s i).priority ≤ top_priority s.n)
-  pub idle-source :
+  pub idle_source :
       (i : ℕ) → i < s.n → (source_at s i).pending ≡ false → ((source_at s i).delivered ≡ false) × ((source_at s i).priority ≡ 0)
   pub configured_core : (k : ℕ) → k < s.m → (core_at s k).configured ≤ top_priority s.n
   pub unfilled_box : (k : ℕ) → k < s.m → (core_at s k).message.filled ≡ false → (core_at s k).message ≡ empty_box
@@ -158,7 +158,7 @@ NoneAbove s =
 
 pub record Quiet (s : Controller) : Type 0 where
   pub candidates_settled_lem : NoneAbove s
-  pub covered-settled :
+  pub covered_settled_lem :
       (j k : ℕ) → j < s.m → k < s.m → (core_at s j).message.filled ≡ true → (core_at s j).configured ≤ current_priority (core_at s k)
 
 abbrev pub Frugal : Controller → Type 0

@@ -2,8 +2,8 @@
 --   ReplayedTo                                    as many commands as are counted are run, and their answers written; those to come, run
 --                                                 from the state reached, end as the whole text's do from the start
 --   encoded                                       the bytes of the fresh state
---   replayed_none, replayed_past, replayed-more   nothing is read; a part without a command, and a part with one
---   replay-end, replay-refused, replay-unfit      nothing is left, sizes out of range, no room: what the call answers and writes
+--   replayed_none, replayed_past, replayed_more   nothing is read; a part without a command, and a part with one
+--   replay_end, replay_refused, replay_unfit      nothing is left, sizes out of range, no room: what the call answers and writes
 --   no_state, no_answers, fits                    whether the buffers fit
 use Prim.Native.Nat.{ℕ, ◌+◌, ◌*◌, ◌<◌, ◌≤◌}
 use mathlib.Core.Path.{◌≡◌, refl, sym, ap, ◌∙◌}
@@ -33,8 +33,8 @@ use Rattle.recording.specs.Reading.{is_good, Reading, reading}
 use Rattle.recording.specs.Replay.{replayed}
 use Rattle.recording.specs.Calls.{report_with, no_room, room, fits_replay, replay_call, DoesReplay}
 use Rattle.recording_calls.specs.Remaining.{Remaining, remaining_with}
-use Rattle.recording_calls.proofs.Parts.{all, whole-reading}
-use Rattle.recording_calls.proofs.Reached.{Reached, reached_none, reached_past, reached-more, reported}
+use Rattle.recording_calls.proofs.Parts.{all, whole_reading}
+use Rattle.recording_calls.proofs.Reached.{Reached, reached_none, reached_past, reached_more, reported}
 
 -- ---- whether the buffers fit
 
@@ -48,10 +48,10 @@ module _ (t b answers : List ℕ) where
   pub answers_fit : fits_replay t b answers ≡ true → answer_size * room t ≤ length answers
   answers_fit e = leb-true _ _ (and_r (eqb (length b) state_size) (leb (answer_size * room t) (length answers)) e)
 
-  pub replay-unfit :
+  pub replay_unfit :
       (n m : ℕ) (r : Report) → r ≡ no_room → fits_replay t b answers ≡ false → DoesReplay r b answers (replay_call n m t b answers)
   unfolding replay_call
-  replay-unfit n m r er e = rw e (er, refl, refl)
+  replay_unfit n m r er e = rw e (er, refl, refl)
 
   pub no_state : (length b ≡ state_size → ⊥) → fits_replay t b answers ≡ false
   no_state h = rw (ne_eqb _ _ h)
@@ -78,11 +78,11 @@ module _ (n m : ℕ) (a : Answer) (e : a ≡ make n m) where
       (ap is_state bytes ∙ (state_encoded (reset n m) sized).0, ap state_from bytes ∙ state_read_back (reset n m) sized)
 
   -- sizes out of range are refused before any reading
-  pub replay-refused :
+  pub replay_refused :
       (t b answers : List ℕ) (r : Report) → (a.number ≡ 0 → ⊥) → r ≡ report_with a.number 0 0 → fits_replay t b answers ≡ true →
       DoesReplay r b answers (replay_call n m t b answers)
   unfolding make replay_call replayed joined
-  replay-refused t b answers r h er ef = go (flag (sizes_in_range n m))
+  replay_refused t b answers r h er ef = go (flag (sizes_in_range n m))
     where
       go : Flag (sizes_in_range n m) → DoesReplay r b answers (replay_call n m t b answers)
       go (on p) = let k : a.number ≡ 0 = ap (λ (x : Answer). x.number) e ∙ rw p in absurd (h k)
@@ -108,14 +108,14 @@ module _
       record { reached = reached_past t at at' count q q' h.reached inside e; taken = rw (← e) h.taken }
 
   -- the command leads to s' and is answered by xs, which is written behind the answers so far
-  pub replayed-more :
+  pub replayed_more :
       {answers' xs : List ℕ} {s' : Controller} {time : ℕ} {c : Command} →
       q ≡ remaining_with (c ∷ q'.commands) (time ∷ q'.times) q'.reader → s' ≡ (execute s c).state →
       answers' ≡ sets answers (answer_size * count) xs → xs ≡ answer_bytes (execute s c) →
       ReplayedTo t answers₀ s₀ answers' s' at' (count + 1) q'
-  replayed-more {time = time} {c = c} e es ea ex =
+  replayed_more {time = time} {c = c} e es ea ex =
       record {
-        reached = reached-more t at at' count time c q q' h.reached inside e;
+        reached = reached_more t at at' count time c q q' h.reached inside e;
         taken = taken_more h.taken (omega arith) (ap (λ (x : Remaining). x.commands) e) es ea ex;
       }
 
@@ -126,15 +126,15 @@ module _ (n m : ℕ) (t b answers₀ : List ℕ) where
   commands = (reading t).commands
 
   same_commands : (all t).commands ≡ commands
-  same_commands = ap (λ (x : Reading). x.commands) (sym (whole-reading t))
+  same_commands = ap (λ (x : Reading). x.commands) (sym (whole_reading t))
 
-  pub replay-end :
+  pub replay_end :
       {answers b' : List ℕ} {s : Controller} {at count : ℕ} {r : Reader} {report : Report} → fits_replay t b answers₀ ≡ true →
       sizes_in_range n m ≡ true → ReplayedTo t answers₀ (reset n m) answers s at count (remaining_with [] [] r) → b' ≡ state_bytes s →
       report ≡ report_with r.fault.number count (cond (is_good r) (length t) r.fault.offset) →
       DoesReplay report b' answers (replay_call n m t b answers₀)
   unfolding replay_call replayed
-  replay-end {answers} {s = s} {at} {count} {r} ef es h eb er =
+  replay_end {answers} {s = s} {at} {count} {r} ef es h eb er =
       let ends : (s ≡ run (reset n m) commands) × (answers ≡ sets answers₀ 0 (answers_from (reset n m) commands))
       = rw (← same_commands) (taken_all h.taken refl) in
       let each = ap (λ (k : ℕ). report_with (reading t).number k (reading t).offset) (sym (answers_count (reset n m) commands)) in

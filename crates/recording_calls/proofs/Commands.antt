@@ -16,14 +16,14 @@ use Rattle.lists.specs.Rows.{joined}
 use Rattle.lists.proofs.Bools.{and_in, and_l, and_r}
 use Rattle.model.specs.declared.Command.{Command}
 use Rattle.layout.specs.Bytes.{command_size, command_bytes}
-use Rattle.lists.proofs.Writes.{sets-append}
+use Rattle.lists.proofs.Writes.{sets_append}
 use Rattle.recording.specs.declared.Reader.{Reader}
 use Rattle.recording.specs.declared.Report.{Report}
 use Rattle.recording.specs.Reading.{is_good, Reading}
 use Rattle.recording.specs.Calls.{report_with, no_room, room, fits_read, read_call, DoesRead}
 use Rattle.recording_calls.specs.Remaining.{Remaining, remaining_with}
-use Rattle.recording_calls.proofs.Parts.{all, whole-reading, whole_times}
-use Rattle.recording_calls.proofs.Reached.{Reached, reached_none, reached_past, reached-more, reported}
+use Rattle.recording_calls.proofs.Parts.{all, whole_reading, whole_times}
+use Rattle.recording_calls.proofs.Reached.{Reached, reached_none, reached_past, reached_more, reported}
 
 -- ---- whether the buffers have room
 
@@ -79,16 +79,16 @@ module _ (t commands₀ times₀ : List ℕ) where
     unfolding joined
     read_more commands' time c e ec =
         record {
-          reached = reached-more t at at' count time c q q' h.reached inside e;
+          reached = reached_more t at at' count time c q q' h.reached inside e;
           size = ap length ec ∙ length-sets commands (command_size * count) (command_bytes c) ∙ h.size;
           times_size = length-sets times count (time ∷ []) ∙ h.times_size;
           written =
               ap (λ (b : List ℕ). sets b (command_size * (count + 1)) (joined command_bytes q'.commands)) ec ∙
-              sets-append commands (command_size * count) (command_size * (count + 1)) (command_bytes c) (joined command_bytes q'.commands)
+              sets_append commands (command_size * count) (command_size * (count + 1)) (command_bytes c) (joined command_bytes q'.commands)
               (omega arith) ∙
               ap (λ (x : Remaining). sets commands (command_size * count) (joined command_bytes x.commands)) (sym e) ∙ h.written;
           timed =
-              sets-append times count (count + 1) (time ∷ []) q'.times refl ∙
+              sets_append times count (count + 1) (time ∷ []) q'.times refl ∙
               ap (λ (x : Remaining). sets times count x.times) (sym e) ∙ h.timed;
         }
 
@@ -103,6 +103,6 @@ module _ (t commands₀ times₀ : List ℕ) where
   read_end commands times at count r report e h er =
       rw e (
         er ∙ reported t at count r h.reached,
-        h.written ∙ ap (λ (x : Reading). sets commands₀ 0 (joined command_bytes x.commands)) (sym (whole-reading t)),
+        h.written ∙ ap (λ (x : Reading). sets commands₀ 0 (joined command_bytes x.commands)) (sym (whole_reading t)),
         h.timed ∙ ap (sets times₀ 0) (sym (whole_times t)),
       )

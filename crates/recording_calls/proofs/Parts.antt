@@ -2,7 +2,7 @@
 --   advanced, ended      a part up to a command, and the end of the text (`Continues`)
 --   none_given, some_given    the command of a strobe
 --   next_none, next_one  what is left where a part gives no command, and where it gives one
---   whole-reading, whole_times    what is left before the first word is the whole reading
+--   whole_reading, whole_times    what is left before the first word is the whole reading
 use Prim.Native.Nat.{ℕ, ◌<◌, ◌≤◌}
 use mathlib.Core.Path.{◌≡◌, refl, sym, ap, ◌∙◌}
 use mathlib.Core.List.{List, [], ◌∷◌, ◌++◌, map, append-nil, append_assoc}
@@ -85,11 +85,11 @@ module _ (t : List ℕ) (at : ℕ) (r : Reader) (a : Advanced) where
   no_words h = rw (drop_of_length-le t h)
 
   module _ (ends : length t ≤ at) (inside : at ≤ length t) where
-    end-remaining :
+    end_remaining :
         (f : Read) → f ≡ finish (length t) r →
         remaining t at r ≡ before f.strobe r.stamp.time (remaining_with [] [] f.reader)
     unfolding remaining read_words times_from
-    end-remaining f e =
+    end_remaining f e =
         ap (λ (ws : List Word). to_end (length t) (read_words (progress r []) ws) (times_from r ws)) (no_words ends) ∙
         ap (λ (x : Read). remaining_with (commands_of x.strobe) (times_at r x) x.reader) (sym e) ∙
         ap (λ (cs : List Command). remaining_with cs (times_at r f) f.reader) (sym (append-nil (commands_of f.strobe))) ∙
@@ -103,7 +103,7 @@ module _ (t : List ℕ) (at : ℕ) (r : Reader) (a : Advanced) where
           within = omega arith;
           forth = omega arith;
           moves = λ less. absurd (omega arith);
-          reads = end-remaining f e ∙ rw (le-ltb at (length t) ends, er, es, et);
+          reads = end_remaining f e ∙ rw (le-ltb at (length t) ends, er, es, et);
         }
 
   -- ---- the command of a part
@@ -132,11 +132,11 @@ module _ (t : List ℕ) where
   abbrev pub all : Remaining
   all = remaining t 0 start
 
-  pub whole-reading :
+  pub whole_reading :
       let r = all.reader in
       reading t ≡ reading_with all.commands r.fault.number (cond (is_good r) (length t) r.fault.offset)
   unfolding reading answered finished advance remaining
-  whole-reading = refl
+  whole_reading = refl
 
   pub whole_times : times_of t ≡ all.times
   unfolding times_of remaining

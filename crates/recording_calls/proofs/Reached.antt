@@ -20,11 +20,11 @@ use Rattle.vcd_reader.specs.declared.Advanced.{Advanced}
 use Rattle.readings.proofs.Counted.{at_most_65535}
 use Rattle.readings.proofs.Limits.{no_more_than_bytes}
 use Rattle.recording_calls.specs.Remaining.{Remaining, remaining_with, Continues}
-use Rattle.recording_calls.proofs.Parts.{all, whole-reading}
+use Rattle.recording_calls.proofs.Parts.{all, whole_reading}
 
 pub commands_room : (t : List ℕ) → length (all t).commands ≤ room t
 commands_room t =
-    let e = ap (λ (x : Reading). length x.commands) (whole-reading t) in
+    let e = ap (λ (x : Reading). length x.commands) (whole_reading t) in
     omega (arith, at_most_65535 t, no_more_than_bytes t)
 
 abbrev pub due : Bool → List ℕ → ℕ → ℕ
@@ -57,10 +57,10 @@ module _ (t : List ℕ) where
         ends = sym (ap (λ (x : Remaining). x.reader) e) ∙ h.ends;
       }
 
-  pub reached-more :
+  pub reached_more :
       (at at' count time : ℕ) (c : Command) (q q' : Remaining) → Reached at count q → at' ≤ length t →
       q ≡ remaining_with (c ∷ q'.commands) (time ∷ q'.times) q'.reader → Reached at' (count + 1) q'
-  reached-more at at' count time c q q' h inside e =
+  reached_more at at' count time c q q' h inside e =
       record {
         within = inside;
         counts = omega (arith, h.counts, ap (λ (x : Remaining). length x.commands) e);
@@ -81,4 +81,4 @@ module _ (t : List ℕ) where
       let total : count ≡ length (all t).commands = omega (arith, h.counts) in
       ap (λ (x : Reader). report_with x.fault.number count (cond (is_good x) (length t) x.fault.offset)) h.ends ∙
       ap (λ (k : ℕ). report_with last.fault.number k (cond (is_good last) (length t) last.fault.offset)) total ∙
-      ap report_of (sym (whole-reading t))
+      ap report_of (sym (whole_reading t))

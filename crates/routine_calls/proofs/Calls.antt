@@ -1,7 +1,7 @@
 -- What each call answers and writes, from what the functions that it calls hand back. Assumes nothing.
 --   bad_state, bad_active, bad_holder        a length that doesn't fit
---   make_unfit, make_refused, make-done      `make_routines_call`
---   call-unread, call-went                   `routine_call`
+--   make_unfit, make_refused, make_done      `make_routines_call`
+--   call_unread, call_went                   `routine_call`
 use Prim.Native.Nat.{ℕ, ◌+◌, ◌*◌}
 use mathlib.Core.Path.{◌≡◌, refl, ◌∙◌, subst}
 use mathlib.Core.List.{List}
@@ -47,25 +47,25 @@ module _ (b active holder : List ℕ) where
     unfolding make_routines_call
     make_refused r h er = rw (fits, ← is, ne_eqb _ _ h) (omega (arith, er), refl, refl, refl)
 
-    pub make-done :
+    pub make_done :
         {b' active' holder' : List ℕ} → a.number ≡ 0 → b' ≡ state_bytes a.state → active' ≡ replicate (length active) 0 →
         holder' ≡ replicate (length holder) 0 → DoesCall 0 b' active' holder' (make_routines_call n m b active holder)
     unfolding make_routines_call
-    make-done e ib ia ih = rw (fits, ← is, e) (refl, ib, rw ea at ia, rw eh at ih)
+    make_done e ib ia ih = rw (fits, ← is, e) (refl, ib, rw ea at ia, rw eh at ih)
 
   -- ---- one call
 
-  pub call-unread :
+  pub call_unread :
       (c : RoutineCall) → is_simulation b active holder ≡ false → DoesCall unreadable b active holder (routine_call c b active holder)
   unfolding routine_call
-  call-unread c e = rw e (refl, refl, refl, refl)
+  call_unread c e = rw e (refl, refl, refl, refl)
 
-  pub call-went :
+  pub call_went :
       (c : RoutineCall) {r : ℕ} {sound : Bool} {o : Stepped} {b' active' holder' keys' ranks' : List ℕ} →
       is_simulation b active holder ≡ true → Went (routines_in b active holder) c sound o b' active' holder' keys' ranks' →
       r ≡ o.number + 256 * (o.id.0 + 65536 * o.cycles) → DoesCall r b' active' holder' (routine_call c b active holder)
   unfolding routine_call
-  call-went c {r} {sound} {o} {b'} {active'} {holder'} e went er =
+  call_went c {r} {sound} {o} {b'} {active'} {holder'} e went er =
       let s = routines_in b active holder in
       let (number_is, id_is, cycles_are, from_is) : Says o (call_routine s c) (taken_from s c) = went.says in
       let is : Routines → Type 0 = λ x. (b' ≡ state_bytes x.controller) × (active' ≡ x.active) × (holder' ≡ x.holder) in

@@ -225,10 +225,10 @@ module _ (s : Controller) (k : CoreId) (p : ℕ) (e : refusal s (OnCore k (SetCo
       (get_or-map soiled (set s.cores k.0 rewritten) k.0 no_core ∙
       ap soiled (get_or-set_same s.cores k.0 rewritten no_core room))
 
-  pub lowered-other :
+  pub lowered_other :
       (j : ℕ) → j ≢ k.0 → (core_at (execute s (OnCore k (SetCorePriority p))).state j).configured ≡ (core_at s j).configured
   unfolding effect
-  lowered-other j h =
+  lowered_other j h =
       configured_after s command e j ∙
       ap (λ (c : Core). c.configured)
       (get_or-map soiled (set s.cores k.0 rewritten) j no_core ∙

@@ -21,7 +21,7 @@ use Rattle.layout.specs.Bytes.{answer_size, state_bytes, is_state, number_in, no
 use Rattle.layout.specs.Statements.{Sized, AreBytes}
 use Rattle.layout.proofs.Records.{word_back}
 use Rattle.layout.proofs.RoundTrip.{state_read_back, state_encoded, bytes_written_back}
-use Rattle.layout.proofs.Machines.{OneByOne, Machine, answers-in-front}
+use Rattle.layout.proofs.Machines.{OneByOne, Machine, answers_in_front}
 use Rattle.layout.proofs.Fives.{fives_length}
 use Rattle.layout.proofs.Lists.{answers_fit}
 use Rattle.well_formed.proofs.Reset.{makes_exactly}
@@ -93,7 +93,7 @@ events_told :
     (s : Routines) (cs : List RoutineCall) (answers : List ℕ) → answer_size * length cs ≤ length answers →
     events_in [] cs (sets answers 0 (answers_on (counting s no_handovers) cs)) ≡ history s cs
 events_told s cs answers enough =
-    ap (events_in [] cs) (answers-in-front routines_machine answers (counting s no_handovers) cs enough)
+    ap (events_in [] cs) (answers_in_front routines_machine answers (counting s no_handovers) cs enough)
     ∙ events_read [] s cs (drop (answer_size * length cs) answers)
 
 -- no handover, as words
@@ -202,7 +202,7 @@ simulate_strict n m b active holder list answers range fits room =
           ap (λ (t : Handovers). get_or (table_words (run_table t s cs)) (max_cores * r + c) 0) blank_table
           ∙ cell_in_words (run_table no_handovers s cs) x.whole r c r-lt c_lt ∙ x.cells r c
           ∙ ap (λ h. min most_handovers (handovers h r c)) told;
-      dropped-is = λ i.
+      dropped_is = λ i.
           ap (λ (v : Routines). (source_at v.controller i).dropped) same ∙ dropped_in_runs n m cs i
           ∙ ap (λ h. min most_dropped (dropped_in h (suc i))) told;
     })

@@ -1,7 +1,7 @@
 -- The cells of the table of handovers. Assumes nothing.
 --   Whole t          it has a row for each core, with a cell for each core
 --   cell_by t r c b   the cell, or one more of it, held
---   cell-counted     a count changes one cell, if any: that of the last holder's row and the claiming core's column
+--   cell_counted     a count changes one cell, if any: that of the last holder's row and the claiming core's column
 --   whole_counted    and leaves the table whole
 use Prim.Native.Nat.{ℕ, zero, suc, pred, ◌<◌, ◌≤◌}
 use mathlib.Core.Path.{◌≡◌, refl, sym, ◌∙◌, ap, subst}
@@ -94,10 +94,10 @@ module _ (t : Handovers) (whole : Whole t) (k : ℕ) (k_lt : k < max_cores) wher
       let ((same, apart), held) = (counts_exact holder k r c).0 p in
       clash ((handed_exact holder k).1 (omega (arith, held), λ z. apart (omega (arith, z, held, same)))) e)
 
-  pub cell-counted :
+  pub cell_counted :
       (holder : ℕ) → holder ≤ max_cores → (r c : ℕ) → cell_at (counted t holder k) r c ≡ cell_by t r c (counts holder k r c)
   unfolding counted
-  cell-counted holder le r c = go (flag (handed_over holder k)) holder refl
+  cell_counted holder le r c = go (flag (handed_over holder k)) holder refl
     where
       go : Flag (handed_over holder k) → (x : ℕ) → holder ≡ x →
           cell_at (cond (handed_over holder k) (raised t (pred holder) k) t) r c ≡ cell_by t r c (counts holder k r c)

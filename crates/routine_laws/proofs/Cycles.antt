@@ -1,7 +1,7 @@
 -- The cycles of a call: an entry takes none (`EntryTakesNoCycle`), and no call takes more than 2m (`CallCyclesBounded`). Assumes nothing.
 --   still_cycles       a command on a source whose request is above no core, or isn't a candidate, takes no cycle
 --   completed_cycles   complete takes none
---   entered-waits      the request that an entry interrupts waits
+--   entered_waits      the request that an entry interrupts waits
 use Prim.Native.Nat.{ℕ, zero, suc, ◌*◌, ◌<◌, ◌≤◌}
 use mathlib.Core.Path.{◌≡◌, refl, ◌∙◌, ap}
 use mathlib.Core.Bool.{Bool, true, false, ◌&&◌}
@@ -38,8 +38,8 @@ use Rattle.routines.specs.Routines.{active_at, SoundRoutines, command_of, call_r
 use Rattle.routines.specs.Routines.{commanded, accepted_call}
 use Rattle.routines.specs.Statements.{EntryTakesNoCycle, CallCyclesBounded}
 use Rattle.routine_laws.proofs.Answered.{by_call}
-use Rattle.routine_laws.proofs.Standing.{sound_accepted, enter-checked, exit_checked}
-use Rattle.routine_laws.proofs.EntryKept.{redelivers, interrupted-priority}
+use Rattle.routine_laws.proofs.Standing.{sound_accepted, enter_checked, exit_checked}
+use Rattle.routine_laws.proofs.EntryKept.{redelivers, interrupted_priority}
 use Rattle.routine_laws.proofs.ExitKept.{completed, completed_m}
 
 none_and : (b : Bool) → b && false ≡ false
@@ -115,8 +115,8 @@ module _ (s : Routines) (sound : SoundRoutines s) (k : CoreId) (k_lt : k.0 < s.c
       omega (
         arith,
         same_current j,
-        interrupted-priority s sound k k_lt filled i is,
-        sound.controller.quiet.covered-settled k.0 j k_lt (omega (arith, same_m)) filled,
+        interrupted_priority s sound k k_lt filled i is,
+        sound.controller.quiet.covered_settled_lem k.0 j k_lt (omega (arith, same_m)) filled,
       )
 
   handed_cycles : (id : ℕ) → id ≡ active_at s k.0 → (hand_back (claim_on s k).state id).cycles ≡ 0
@@ -125,11 +125,11 @@ module _ (s : Routines) (sound : SoundRoutines s) (k : CoreId) (k_lt : k.0 < s.c
       rw (ne_eqb (suc i) 0 (λ z. absurd (omega arith)))
       (low_cycles (claim_on s k).state (source_id (suc i)) Redeliver (redelivers s sound k k_lt filled i is) (covered i is))
 
-  handed-waits :
+  handed_waits :
       (id : ℕ) → id ≡ active_at s k.0 → (i : ℕ) → id ≡ suc i →
       waiting (source_at (hand_back (claim_on s k).state id).state i) ≡ true
-  handed-waits zero is i q = absurd (omega arith)
-  handed-waits (suc j) is i q =
+  handed_waits zero is i q = absurd (omega arith)
+  handed_waits (suc j) is i q =
       let same : i ≡ j = omega arith in
       let e : refusal (claim_on s k).state (OnSource (source_id (suc j)) Redeliver) ≡ 0 = redelivers s sound k k_lt filled j is in
       let (w, (h, taken)) = accepted (claim_on s k).state (OnSource (source_id (suc j)) Redeliver) e in
@@ -137,10 +137,10 @@ module _ (s : Routines) (sound : SoundRoutines s) (k : CoreId) (k_lt : k.0 < s.c
       (same, ne_eqb (suc j) 0 (λ z. absurd (omega arith)), low_source (claim_on s k).state (source_id (suc j)) Redeliver e (covered j is))
       (and_in (claimed_out (claim_on s k).state j taken).0 refl)
 
-  pub entered-waits :
+  pub entered_waits :
       (i : ℕ) → active_at s k.0 ≡ suc i → waiting (source_at (entered s k).state.controller i) ≡ true
   unfolding entered
-  entered-waits i q = handed-waits (active_at s k.0) refl i q
+  entered_waits i q = handed_waits (active_at s k.0) refl i q
 
   entered_cycles : (entered s k).cycles ≡ 0
   unfolding entered
@@ -156,7 +156,7 @@ entry_takes_no_cycle s k =
     by_call s (Enter k) (λ a. a.cycles ≡ 0)
     (λ e.
     let (sound, checks) = sound_accepted s (Enter k) e in
-    let (k_lt, filled) = enter-checked s k checks in
+    let (k_lt, filled) = enter_checked s k checks in
     entered_cycles s sound k k_lt filled)
     (λ h. refl)
 
@@ -167,7 +167,7 @@ unfolding commanded exited
 accepted_cycles s (Direct id a) e = cycles_bounded s.controller (command_of id a)
 accepted_cycles s (Enter k) e =
     let (sound, checks) = sound_accepted s (Enter k) e in
-    let (k_lt, filled) = enter-checked s k checks in
+    let (k_lt, filled) = enter_checked s k checks in
     omega (arith, entered_cycles s sound k k_lt filled)
 accepted_cycles s (Exit k) e =
     let (sound, checks) = sound_accepted s (Exit k) e in

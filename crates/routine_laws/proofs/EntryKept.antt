@@ -1,5 +1,5 @@
 -- An accepted entry keeps the simulation sound, and its commands are accepted (`EntryAnswered`). Assumes nothing.
---   redelivers, interrupted-priority    of the redeliver in it
+--   redelivers, interrupted_priority    of the redeliver in it
 --   hand_back_lem      redeliver lets the interrupted request go; without one nothing changes
 --   entered_kept   core k goes over to the request of its box
 use Prim.Native.Nat.{ℕ, zero, suc, pred, ◌<◌, ◌≤◌}
@@ -29,7 +29,7 @@ use Rattle.routines.specs.declared.Routines.{Routines}
 use Rattle.routines.specs.declared.RoutineCall.TheVariants.{Enter}
 use Rattle.routines.specs.Routines.{active_at, active_index, routines_with, Runs, SoundRoutines, claim_on, hand_back, entered}
 use Rattle.routines.specs.Statements.{EntryAnswered}
-use Rattle.routine_laws.proofs.Standing.{running, sound_accepted, enter-checked, answered}
+use Rattle.routine_laws.proofs.Standing.{running, sound_accepted, enter_checked, answered}
 use Rattle.routine_laws.proofs.After.{Claiming, claiming}
 use Rattle.routine_laws.proofs.LetGo.{LetGo, none_goes, redeliver_accepted, redelivered_goes}
 use Rattle.routine_laws.proofs.Switch.{Stays, TakenBy, Switch, switch_sound}
@@ -106,9 +106,9 @@ module _ (s : Routines) (sound : SoundRoutines s) (k : CoreId) (k_lt : k.0 < s.c
       (i : ℕ) → suc i ≡ active_at s k.0 → refusal (claim_on s k).state (OnSource (source_id (suc i)) Redeliver) ≡ 0
   redelivers i q = let (l, e) = interrupted i q in redeliver_accepted c' sound' i l e
 
-  pub interrupted-priority :
+  pub interrupted_priority :
       (i : ℕ) → suc i ≡ active_at s k.0 → (source_at (claim_on s k).state i).priority ≡ (core_at s.controller k.0).configured
-  interrupted-priority i q =
+  interrupted_priority i q =
       ap (λ (r : Source). r.priority) (claims.sources i) ∙ sym (sound.runs_at_its_priority i k.0 (runs_on i q))
 
   goes : LetGo c' c'' prev
@@ -208,5 +208,5 @@ module _ (s : Routines) (sound : SoundRoutines s) (k : CoreId) (k_lt : k.0 < s.c
 pub entry_answered : EntryAnswered
 entry_answered s k e =
     let (sound, checks) = sound_accepted s (Enter k) e in
-    let (k_lt, filled) = enter-checked s k checks in
+    let (k_lt, filled) = enter_checked s k checks in
     entry_numbers s sound k k_lt filled

@@ -24,7 +24,7 @@ use Rattle.routines.specs.declared.RoutineCall.TheVariants.{Exit}
 use Rattle.routines.specs.Routines.{active_at, active_index, routines_with, Runs, SoundRoutines, complete_on, lower, exited}
 use Rattle.routines.specs.Statements.{ExitAnswered}
 use Rattle.routine_laws.proofs.Standing.{running, sound_accepted, exit_checked, command_accepted, answered}
-use Rattle.routine_laws.proofs.After.{n_after, m_after, lowered_claimed, lowered_priority, lowered_here, lowered-other}
+use Rattle.routine_laws.proofs.After.{n_after, m_after, lowered_claimed, lowered_priority, lowered_here, lowered_other}
 use Rattle.routine_laws.proofs.LetGo.{LetGo, complete_accepted, completed_goes}
 use Rattle.routine_laws.proofs.Switch.{Stays, Switch, switch_sound}
 
@@ -99,7 +99,7 @@ module _ (s : Routines) (sound : SoundRoutines s) (k : CoreId) (k_lt : k.0 < s.c
         taken = λ i q. absurd (omega arith);
         elsewhere = λ j h. get_or-set_other s.active k.0 j 0 0 h;
         apart = λ j l h some q. absurd (omega arith);
-        configured = λ j h. lowered-other c' k 0 lowered j h ∙ goes.configured j;
+        configured = λ j h. lowered_other c' k 0 lowered j h ∙ goes.configured j;
         claimed_before = claimed_before;
         stays = stays;
         holders_in_range = sound.holders_in_range;

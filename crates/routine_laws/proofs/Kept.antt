@@ -7,7 +7,7 @@ use mathlib.Core.Bool.{not, ◌&&◌}
 use Rattle.model.specs.declared.Source.{Source}
 use Rattle.model.specs.Records.{index_of, dropped_one, source_at, with_source}
 use Rattle.model.specs.Requests.{boxed, claimed}
-use Rattle.effects.proofs.Dropped.{by-refusal, drops_named, one_read, dropped_well_formed}
+use Rattle.effects.proofs.Dropped.{by_refusal, drops_named, one_read, dropped_well_formed}
 use Rattle.routines.specs.declared.Routines.{Routines}
 use Rattle.routines.specs.declared.RoutineCall.{RoutineCall}
 use Rattle.routines.specs.declared.RoutineCall.TheVariants.{Direct, Enter, Exit}
@@ -15,7 +15,7 @@ use Rattle.routines.specs.Routines.{with_controller, Runs, SoundRoutines, action
 use Rattle.routines.specs.Routines.{after_refused_call, call_routine, run_routines}
 use Rattle.routines.specs.Statements.{RoutinesKept}
 use Rattle.routine_laws.proofs.Answered.{by_call}
-use Rattle.routine_laws.proofs.Standing.{sound_accepted, enter-checked, exit_checked, command_accepted, call_dropped}
+use Rattle.routine_laws.proofs.Standing.{sound_accepted, enter_checked, exit_checked, command_accepted, call_dropped}
 use Rattle.routine_laws.proofs.DirectKept.{commanded_kept}
 use Rattle.routine_laws.proofs.EntryKept.{entered_kept}
 use Rattle.routine_laws.proofs.ExitKept.{exited_kept}
@@ -24,7 +24,7 @@ accepted_kept : (s : Routines) → SoundRoutines s → (c : RoutineCall) → cal
 unfolding call_refusal_of
 accepted_kept s sound (Direct id a) e =
     commanded_kept s sound id a (command_accepted s.controller (command_of id a) sound.controller e)
-accepted_kept s sound (Enter k) e = let (l, filled) = enter-checked s k e in entered_kept s sound k l filled
+accepted_kept s sound (Enter k) e = let (l, filled) = enter_checked s k e in entered_kept s sound k l filled
 accepted_kept s sound (Exit k) e = let (l, busy) = exit_checked s k e in exited_kept s sound k l busy
 
 -- ---- a refused call
@@ -68,7 +68,7 @@ module _ (s : Routines) (sound : SoundRoutines s) (at : ℕ) (at_in : at < s.con
 
 refused_kept : (s : Routines) → SoundRoutines s → (c : RoutineCall) → SoundRoutines (after_refused_call s c (call_refusal s c))
 refused_kept s sound (Direct id a) =
-    by-refusal s.controller (command_of id a) (call_refusal s (Direct id a)) (λ t. SoundRoutines (with_controller s t))
+    by_refusal s.controller (command_of id a) (call_refusal s (Direct id a)) (λ t. SoundRoutines (with_controller s t))
     (λ h. sound)
     (λ six. dropped_sound s sound (index_of id) (drops_named s.controller id (action_of a) (call_dropped s id a six).1).1)
 refused_kept s sound (Enter k) = sound

@@ -42,9 +42,9 @@ module _ (s : Routines) where
     abbrev Named : Type 0
     Named = (1 ≤ id.0) × (id.0 ≤ s.controller.n)
 
-    id-first :
+    id_first :
         {number : ℕ} {R : ℕ → Type 0} → Chain 2 number R → Chain 1 (unless (names_source s.controller id) 4 number) (Next Named 4 R)
-    id-first row = check 4 (omega arith) (omega arith) (between_exact 1 s.controller.n id.0) row
+    id_first row = check 4 (omega arith) (omega arith) (between_exact 1 s.controller.n id.0) row
 
     abbrev pending : Bool
     pending = (source_at s.controller (index_of id)).pending
@@ -57,7 +57,7 @@ module _ (s : Routines) where
     unfolding call_refusal call_refusal_of refusal_of
     setting_exact p =
         by_chain there back
-        (sound_first (id-first
+        (sound_first (id_first
         (check 5 (omega arith) (omega arith) (between_exact 1 top p) (check 9 (omega arith) (omega arith) (not_exact pending) (done 4)))))
       where
         there : (j : ℕ) → CallRow s (Direct id (SetPriority p)) j → Next Sound 1 (Next Named 4 (Setting p)) j
@@ -75,7 +75,7 @@ module _ (s : Routines) where
 
     mask_exact : CallRefusals (call_refusal s (Direct id Mask)) s (Direct id Mask)
     unfolding call_refusal call_refusal_of refusal_of
-    mask_exact = by_chain there back (sound_first (id-first (done 2)))
+    mask_exact = by_chain there back (sound_first (id_first (done 2)))
       where
         there : (j : ℕ) → CallRow s (Direct id Mask) j → Next Sound 1 (Next Named 4 NoLine) j
         there _ (not_sound h) = fails h
@@ -88,7 +88,7 @@ module _ (s : Routines) where
 
     unmask_exact : CallRefusals (call_refusal s (Direct id Unmask)) s (Direct id Unmask)
     unfolding call_refusal call_refusal_of refusal_of
-    unmask_exact = by_chain there back (sound_first (id-first (done 2)))
+    unmask_exact = by_chain there back (sound_first (id_first (done 2)))
       where
         there : (j : ℕ) → CallRow s (Direct id Unmask) j → Next Sound 1 (Next Named 4 NoLine) j
         there _ (not_sound h) = fails h
@@ -102,7 +102,7 @@ module _ (s : Routines) where
     trigger_exact : CallRefusals (call_refusal s (Direct id Trigger)) s (Direct id Trigger)
     unfolding call_refusal call_refusal_of refusal_of
     trigger_exact =
-        by_chain there back (sound_first (id-first (check 6 (omega arith) (omega arith) (not_exact pending) (done 4))))
+        by_chain there back (sound_first (id_first (check 6 (omega arith) (omega arith) (not_exact pending) (done 4))))
       where
         there : (j : ℕ) → CallRow s (Direct id Trigger) j → Next Sound 1 (Next Named 4 (Next (pending ≡ false) 6 NoLine)) j
         there _ (not_sound h) = fails h
@@ -119,9 +119,9 @@ module _ (s : Routines) where
     abbrev Inside : Type 0
     Inside = k.0 < s.controller.m
 
-    core-first :
+    core_first :
         {number : ℕ} {R : ℕ → Type 0} → Chain 2 number R → Chain 1 (unless (names_core s.controller k) 3 number) (Next Inside 3 R)
-    core-first row = check 3 (omega arith) (omega arith) (ltb_exact k.0 s.controller.m) row
+    core_first row = check 3 (omega arith) (omega arith) (ltb_exact k.0 s.controller.m) row
 
     abbrev filled : Bool
     filled = (core_at s.controller k.0).message.filled
@@ -129,7 +129,7 @@ module _ (s : Routines) where
     enter_exact : CallRefusals (call_refusal s (Enter k)) s (Enter k)
     unfolding call_refusal call_refusal_of
     enter_exact =
-        by_chain there back (sound_first (core-first (check 7 (omega arith) (omega arith) (flag_exact filled) (done 4))))
+        by_chain there back (sound_first (core_first (check 7 (omega arith) (omega arith) (flag_exact filled) (done 4))))
       where
         there : (j : ℕ) → CallRow s (Enter k) j → Next Sound 1 (Next Inside 3 (Next (filled ≡ true) 7 NoLine)) j
         there _ (not_sound h) = fails h
@@ -149,7 +149,7 @@ module _ (s : Routines) where
     unfolding call_refusal call_refusal_of
     exit_exact =
         by_chain there back
-        (sound_first (core-first (check 8 (omega arith) (omega arith) (ltb_exact 0 (active_at s k.0)) (done 4))))
+        (sound_first (core_first (check 8 (omega arith) (omega arith) (ltb_exact 0 (active_at s k.0)) (done 4))))
       where
         there : (j : ℕ) → CallRow s (Exit k) j → Next Sound 1 (Next Inside 3 (Next Busy 8 NoLine)) j
         there _ (not_sound h) = fails h

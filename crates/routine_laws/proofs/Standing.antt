@@ -2,7 +2,7 @@
 --   running, same_core, idle_at_zero    a core that is active runs its request, no other core does, and an idle one is at 0
 --   sound_accepted                      an accepted call has found a sound simulation, and has passed its checks
 --   command_accepted, answered          a command that passes its checks on a sound controller is accepted, and answers 0
---   enter-checked, exit_checked         what the checks of entry and exit say
+--   enter_checked, exit_checked         what the checks of entry and exit say
 --   call_dropped                        what a call has found that is refused by 6
 use Prim.Native.Nat.{ℕ, suc, ◌<◌, ◌≤◌}
 use mathlib.Core.Path.{◌≡◌, sym, ◌∙◌, ap}
@@ -71,11 +71,11 @@ module _ (s : Routines) where
   sound_accepted c e =
       let (test, checks) = passed (sound_routines s) 0 (call_refusal_of s c) e in ((routines_test_exact s).0 test, checks)
 
-  pub enter-checked :
+  pub enter_checked :
       (k : CoreId) → call_refusal_of s (Enter k) ≡ 0 →
       (k.0 < s.controller.m) × ((core_at s.controller k.0).message.filled ≡ true)
   unfolding call_refusal_of
-  enter-checked k e =
+  enter_checked k e =
       let (name, rest) = passed (names_core s.controller k) 2 _ e in
       (ltb-true k.0 s.controller.m name, (passed (core_at s.controller k.0).message.filled 6 0 rest).0)
 

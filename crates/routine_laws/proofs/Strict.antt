@@ -62,14 +62,14 @@ module _ (s : Routines) (sound : SoundRoutines s) (empty : NoneFilled s) where
         arith,
         below i k h l e,
         idle_at_zero s sound k l idle,
-        (sound.controller.consistent.request-range i h pending).0,
+        (sound.controller.consistent.request_range i h pending).0,
       )
 
   pub sound_strict : StrictlyRun s
   sound_strict =
       record {
         none_above = λ i j k h e r. omega (arith, below i k h r.core_in e, sound.runs_at_its_priority j k r);
-        none-waits = λ i k h l idle. refuted (candidate (source_at s.controller i)) (waits_not i k h l idle);
+        none_waits = λ i k h l idle. refuted (candidate (source_at s.controller i)) (waits_not i k h l idle);
         runs_or_idles = λ k l busy. (active_index s k, running s sound k l busy);
       }
 

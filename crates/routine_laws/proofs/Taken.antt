@@ -20,11 +20,11 @@ use Rattle.routines.specs.declared.RoutineCall.TheVariants.{Enter, Exit}
 use Rattle.routines.specs.Routines.{active_at, active_index, Runs, IdleAt, SoundRoutines, claim_on, entered, complete_on, lower, exited}
 use Rattle.routines.specs.Statements.{EnteredOn, EntryTakes, LeftOn, ExitLeaves}
 use Rattle.routine_laws.proofs.Answered.{call_accepted}
-use Rattle.routine_laws.proofs.Standing.{running, idle_at_zero, sound_accepted, enter-checked, exit_checked}
+use Rattle.routine_laws.proofs.Standing.{running, idle_at_zero, sound_accepted, enter_checked, exit_checked}
 use Rattle.routine_laws.proofs.After.{pending_after}
 use Rattle.routine_laws.proofs.EntryKept.{claim_id, entered_kept, entered_active, entered_m, some_box}
 use Rattle.routine_laws.proofs.ExitKept.{completed, lowered, exited_kept, exited_active, exited_m}
-use Rattle.routine_laws.proofs.Cycles.{entered-waits}
+use Rattle.routine_laws.proofs.Cycles.{entered_waits}
 
 module _ (s : Routines) (sound : SoundRoutines s) (k : CoreId) (k_lt : k.0 < s.controller.m)
     (filled : (core_at s.controller k.0).message.filled ≡ true) where
@@ -47,13 +47,13 @@ module _ (s : Routines) (sound : SoundRoutines s) (k : CoreId) (k_lt : k.0 < s.c
         answers_box = claim_id s sound k k_lt filled;
         runs = runs_box;
         some_id = λ z. some_box s sound k k_lt filled (sym (claim_id s sound k k_lt filled) ∙ z);
-        interrupted = entered-waits s sound k k_lt filled;
+        interrupted = entered_waits s sound k k_lt filled;
       }
 
 pub entry_takes : EntryTakes
 entry_takes s k e =
     let (sound, checks) = sound_accepted s (Enter k) e in
-    let (k_lt, filled) = enter-checked s k checks in
+    let (k_lt, filled) = enter_checked s k checks in
     rw (call_accepted s (Enter k) e) (entered_on s sound k k_lt filled)
 
 -- ---- exit

@@ -13,7 +13,7 @@ use native.Mathlib.Omega.{arith}
 use borrow.Author.Tests.{eq-eqb, ne_eqb}
 use Rattle.lists.proofs.Filling.{get_or-zeros}
 use Rattle.lists.proofs.Held.{held_by_lem}
-use Rattle.lists.proofs.Writes.{read-written}
+use Rattle.lists.proofs.Writes.{read_written}
 use Rattle.model.specs.declared.SourceId.{SourceId}
 use Rattle.model.specs.declared.CoreId.{CoreId}
 use Rattle.model.specs.Records.{max_sources, max_cores, index_of, core_at, reset}
@@ -32,10 +32,10 @@ use Rattle.routines.specs.Routines.{most_handovers, box_holder, counted, table_a
 use Rattle.routines.specs.History.{Event, held_by, last_holder, passes_on, handovers, event_of, event_with, history_after, history}
 use Rattle.routines.specs.Statements.{TableIsHistory, DiagonalZero}
 use Rattle.routine_laws.proofs.Answered.{by_call}
-use Rattle.routine_laws.proofs.Standing.{sound_accepted, enter-checked, command_accepted}
+use Rattle.routine_laws.proofs.Standing.{sound_accepted, enter_checked, command_accepted}
 use Rattle.routine_laws.proofs.EntryKept.{claim_id}
 use Rattle.routine_laws.proofs.Strict.{fresh_is}
-use Rattle.routine_laws.proofs.Cells.{Whole, counts, cell_by, cell-counted, whole_counted}
+use Rattle.routine_laws.proofs.Cells.{Whole, counts, cell_by, cell_counted, whole_counted}
 
 pub record Tallied (s : Routines) (t : Handovers) (h : List Event) : Type 0 where
   pub whole : Whole t
@@ -77,7 +77,7 @@ module _ (s : Routines) (sound : SoundRoutines s) (h : List Event)
       get_or (set s.holder (pred id) v) i 0 ≡ cond (eqb id (suc i)) v (last_holder h (suc i))
   written id v some le i l =
       let fits : pred id < length s.holder = omega (arith, sound.holder_length, sound.controller.consistent.n_le) in
-      sym (read-written (λ j y. y) s.holder (pred id) i v 0 fits id (suc i) (λ e. omega arith, λ e. omega arith) (λ e. refl)
+      sym (read_written (λ j y. y) s.holder (pred id) i v 0 fits id (suc i) (λ e. omega arith, λ e. omega arith) (λ e. refl)
       (sym (same i l)))
 
 module _ (s : Routines) (sound : SoundRoutines s) (t : Handovers) (h : List Event) (x : Tallied s t h) where
@@ -125,7 +125,7 @@ module _ (s : Routines) (sound : SoundRoutines s) (t : Handovers) (h : List Even
         cell_at (counted t (box_holder s k.0) k.0) r c ≡
         min most_handovers (handovers h r c + cond (counts (last_holder h box) k.0 r c) 1 0)
     cell_after r c =
-        cell-counted t x.whole k.0 core_lt (box_holder s k.0) holder_le r c ∙
+        cell_counted t x.whole k.0 core_lt (box_holder s k.0) holder_le r c ∙
         ap (λ y. cell_by t r c (counts y k.0 r c)) held ∙
         held_by_lem most_handovers (cell_at t r c) (handovers h r c) (x.cells r c) (counts (last_holder h box) k.0 r c)
 
@@ -141,10 +141,10 @@ module _ (s : Routines) (sound : SoundRoutines s) (t : Handovers) (h : List Even
           cells = λ r c. rw e (cell_after r c);
         }
 
-    entered-tallied :
+    entered_tallied :
         Tallied (entered s k).state (counted t (box_holder s k.0) k.0) (event_with (Enter k) 0 (entered s k).id.0 ∷ h)
     unfolding entered
-    entered-tallied = entered_by (entered s k).state (claim_on s k).id.0 (claim_id s sound k k_lt filled) refl
+    entered_tallied = entered_by (entered s k).state (claim_on s k).id.0 (claim_id s sound k k_lt filled) refl
 
 -- ---- any call
 
@@ -160,8 +160,8 @@ module _ (s : Routines) (t : Handovers) (h : List Event) (x : Tallied s t h) whe
       commanded_tallied s sound t h x id a n
   accepted_tallied (Enter k) e =
       let (sound, checks) = sound_accepted s (Enter k) e in
-      let (l, filled) = enter-checked s k checks in
-      rw (eq-eqb (call_refusal s (Enter k)) 0 e) (entered-tallied s sound t h x k l filled)
+      let (l, filled) = enter_checked s k checks in
+      rw (eq-eqb (call_refusal s (Enter k)) 0 e) (entered_tallied s sound t h x k l filled)
   accepted_tallied (Exit k) e = let (sound, checks) = sound_accepted s (Exit k) e in exited_tallied s sound t h x k
 
   unaccepted : (c : RoutineCall) → call_refusal s c ≢ 0 →

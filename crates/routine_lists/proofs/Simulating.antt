@@ -5,7 +5,7 @@
 --   kept_by, raised_by, count_fits    the same of what a step answers
 --   simulate_none, simulate_more    no call is taken; one more is taken
 --   fit, all_fit, no_memory, no_answers, no_table    whether memory, list, answers and table fit
---   no_run, simulate-done       what the whole list answers and writes: nothing; a run
+--   no_run, simulate_done       what the whole list answers and writes: nothing; a run
 use Prim.Native.Nat.{ℕ, pred, ◌+◌, ◌<◌, ◌≤◌}
 use mathlib.Core.Path.{◌≡◌, refl, sym, ◌∙◌, ap}
 use mathlib.Core.Logic.{◌≢◌}
@@ -33,7 +33,7 @@ use Rattle.routines.specs.declared.DecodedCall.TheVariants.{Unnamed, Named}
 use Rattle.routines.specs.Routines.{call_refusal, call_routine, Handovers, box_holder, counted, table_after}
 use Rattle.routines.specs.Calls.{one_call, call_of, routines_in, is_simulation, table_size, table_in, table_words, DoesSimulate, fits_simulate}
 use Rattle.routines.specs.Calls.{simulate_call}
-use Rattle.routine_laws.proofs.Standing.{sound_accepted, enter-checked}
+use Rattle.routine_laws.proofs.Standing.{sound_accepted, enter_checked}
 use Rattle.routine_laws.proofs.Called.{Counting, counting, routines_machine}
 use Rattle.routine_steps.specs.declared.Stepped.{Stepped}
 use Rattle.routine_steps.specs.Simulated.{taken_from, Says, Went}
@@ -91,7 +91,7 @@ module _ (t : Handovers) (s : Routines) where
           (table_after t s (Enter k) ≡ counted t (taken_from s (Enter k)) k.0) × (k.0 < max_cores) × (taken_from s (Enter k) ≤ max_cores)
       go (yes e) =
           let (sound, checks) = sound_accepted s (Enter k) e in
-          let (k_lt, filled) = enter-checked s k checks in
+          let (k_lt, filled) = enter_checked s k checks in
           let consistent = sound.controller.consistent in
           let backed = consistent.backed k.0 k_lt filled in
           let box = (core_at s.controller k.0).message.source in
@@ -192,7 +192,7 @@ module _ (b active holder list answers table : List ℕ) where
       fits_simulate b active holder list answers table ≡ true
   all_fit e f g = and_in e (and_in f (eq-eqb _ _ g))
 
-  pub simulate-done :
+  pub simulate_done :
       fits_simulate b active holder list answers table ≡ true →
       {r : ℕ} {b' active' holder' answers' table' : List ℕ} {counts : Handovers} →
       Ran read_call routines_machine list answers (counting (routines_in b active holder) (table_in table)) r answers'
@@ -200,7 +200,7 @@ module _ (b active holder list answers table : List ℕ) where
       b' ≡ state_bytes (routines_in b' active' holder').controller → table' ≡ table_words counts →
       DoesSimulate r b' active' holder' answers' table' (simulate_call b active holder list answers table)
   unfolding simulate_call
-  simulate-done e ran whole et =
+  simulate_done e ran whole et =
       let end = ap (λ (x : Counting). x.routines) ran.state in
       let bytes = whole ∙ ap (λ (x : Routines). state_bytes x.controller) end in
       let actives = ap (λ (x : Routines). x.active) end in

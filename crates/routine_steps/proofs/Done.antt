@@ -1,7 +1,7 @@
 -- What a call leaves in a host's memory, from what its commands leave. Assumes nothing.
---   command-refused, command-done             a command on a source
---   enter-refused, enter_ready, enter-done    an entry: its claim is refused; claimed; the interrupted request redelivered
---   exit-refused, exit_ready, exit-done       an exit: refused; completed; the core set to 0
+--   command_refused, command_done             a command on a source
+--   enter_refused, enter_ready, enter_done    an entry: its claim is refused; claimed; the interrupted request redelivered
+--   exit_refused, exit_ready, exit_done       an exit: refused; completed; the core set to 0
 use Prim.Native.Nat.{ℕ, pred, ◌+◌, ◌-◌, ◌<◌, ◌≤◌}
 use mathlib.Core.Path.{◌≡◌, refl, sym, ◌∙◌, ap, subst}
 use mathlib.Core.Logic.{◌≢◌}
@@ -41,12 +41,12 @@ use Rattle.routines.specs.Routines.{with_controller, active_at, action_of, comma
 use Rattle.routines.specs.Routines.{lower, exited, holder_after, commanded, after_refused_call, refused_call, call_routine}
 use Rattle.routines.specs.Calls.{routines_in}
 use Rattle.routine_laws.proofs.Answered.{call_accepted, call_refused}
-use Rattle.routine_laws.proofs.Standing.{sound_accepted, enter-checked}
+use Rattle.routine_laws.proofs.Standing.{sound_accepted, enter_checked}
 use Rattle.routine_laws.proofs.EntryKept.{claim_id}
 use Rattle.routine_laws.proofs.Cycles.{entry_takes_no_cycle, call_cycles_bounded}
 use Rattle.routine_steps.specs.declared.Stepped.{Stepped}
 use Rattle.routine_steps.specs.Simulated.{taken_from, Standing, Did}
-use Rattle.routine_steps.proofs.Numbers.{command_number, direct-number, enter_number, runs-there}
+use Rattle.routine_steps.proofs.Numbers.{command_number, direct_number, enter_number, runs_there}
 
 -- what is answered, by its parts
 abbrev pub Answers : Stepped → ℕ → ℕ → ℕ → ℕ → Type 0
@@ -102,25 +102,25 @@ module _ {b active holder keys ranks : List ℕ} (st : Standing b active holder 
 
   -- ---- a command on a source
 
-  source-named :
+  source_named :
       (id : SourceId) (a : DirectAction) → refusal_of s.controller (command_of id a) ≡ 0 →
       (1 ≤ id.0) × (id.0 ≤ s.controller.n)
-  source-named id a e = (checked s.controller (command_of id a) e).0
+  source_named id a e = (checked s.controller (command_of id a) e).0
 
   -- the action by the controller's name for it
-  pub as-command :
+  pub as_command :
       (id : SourceId) (a : DirectAction) {o : SourceAction} {x : Outcome} {b' keys' ranks' : List ℕ} → o ≡ action_of a →
       Executed b (OnSource id o) x b' keys' ranks' → Executed b (command_of id a) x b' keys' ranks'
-  as-command id a {o} {x} {b'} {keys'} {ranks'} e did = subst (λ (y : SourceAction). Executed b (OnSource id y) x b' keys' ranks') e did
+  as_command id a {o} {x} {b'} {keys'} {ranks'} e did = subst (λ (y : SourceAction). Executed b (OnSource id y) x b' keys' ranks') e did
 
   module _ (id : SourceId) (a : DirectAction) {x : Outcome} {b' keys' ranks' : List ℕ}
       (did : Executed b (command_of id a) x b' keys' ranks') where
     number : x.number ≡ call_refusal s (Direct id a)
-    number = did.says.0 ∙ direct-number s st.sound id a
+    number = did.says.0 ∙ direct_number s st.sound id a
 
-    pub command-refused :
+    pub command_refused :
         {r : Stepped} → x.number ≢ 0 → Answers r x.number 0 0 0 → Did s (Direct id a) r b' active holder keys' ranks'
-    command-refused h says = stays (Direct id a) x.number (sym number) h refl says (left (command_of id a) did h)
+    command_refused h says = stays (Direct id a) x.number (sym number) h refl says (left (command_of id a) did h)
 
     module _ (e : x.number ≡ 0) where
       accepted : call_routine s (Direct id a) ≡ commanded s id a
@@ -128,16 +128,16 @@ module _ {b active holder keys ranks : List ℕ} (st : Standing b active holder 
 
       pub command_source : (1 ≤ id.0) × (id.0 - 1 < length holder)
       command_source =
-          let (named, rest) = source-named id a (sym (command_number s st.sound (command_of id a)) ∙ sym did.says.0 ∙ e) in
+          let (named, rest) = source_named id a (sym (command_number s st.sound (command_of id a)) ∙ sym did.says.0 ∙ e) in
           let long = st.sound.holder_length in
           let n_le = st.sound.controller.consistent.n_le in
           (named, omega (arith, rest, long, n_le))
 
-      pub command-done :
+      pub command_done :
           {r : Stepped} {holder' : List ℕ} → Answers r 0 0 x.cycles 0 → holder' ≡ holder_after a (id.0 - 1) holder →
           Did s (Direct id a) r b' active holder' keys' ranks'
       unfolding commanded
-      command-done (en, ei, ec, ef) eh =
+      command_done (en, ei, ec, ef) eh =
           record {
             says = rw accepted (en, ei, ec ∙ did.says.2, ef);
             held = rw accepted did.held;
@@ -151,9 +151,9 @@ module _ {b active holder keys ranks : List ℕ} (st : Standing b active holder 
     enter_is : x.number ≡ call_refusal s (Enter k)
     enter_is = did.says.0 ∙ enter_number s st.sound k
 
-    pub enter-refused :
+    pub enter_refused :
         {r : Stepped} → x.number ≢ 0 → Answers r x.number 0 0 0 → Did s (Enter k) r b₁ active holder keys₁ ranks₁
-    enter-refused h says =
+    enter_refused h says =
         stays (Enter k) x.number (sym enter_is) h refl says
         (subst (λ (c : Controller). Held c b₁ keys₁ ranks₁) (core_kept (state_from b) k Claim x.number) (left (OnCore k Claim) did h))
 
@@ -162,7 +162,7 @@ module _ {b active holder keys ranks : List ℕ} (st : Standing b active holder 
 
     module _ (e : x.number ≡ 0) where
       passes : (k.0 < s.controller.m) × ((core_at s.controller k.0).message.filled ≡ true)
-      passes = enter-checked s k (sound_accepted s (Enter k) (sym enter_is ∙ e)).1
+      passes = enter_checked s k (sound_accepted s (Enter k) (sym enter_is ∙ e)).1
 
       id_is : x.id.0 ≡ (core_at s.controller k.0).message.source.0
       id_is = did.says.1 ∙ claim_id s st.sound k passes.0 passes.1
@@ -192,12 +192,12 @@ module _ {b active holder keys ranks : List ℕ} (st : Standing b active holder 
         pub enter_cycles : x.cycles + y.cycles ≡ 0
         enter_cycles = cycles_are ∙ entry_takes_no_cycle s k
 
-        pub enter-done :
+        pub enter_done :
             {r : Stepped} {active' holder' : List ℕ} → Answers r 0 x.id.0 (x.cycles + y.cycles) (get_or holder (x.id.0 - 1) 0) →
             active' ≡ set active k.0 x.id.0 → holder' ≡ set holder (x.id.0 - 1) (k.0 + 1) →
             Did s (Enter k) r b₂ active' holder' keys₂ ranks₂
         unfolding entered
-        enter-done (en, ei, ec, ef) ea eh =
+        enter_done (en, ei, ec, ef) ea eh =
             let index : x.id.0 - 1 ≡ pred (claim_on s k).id.0 = sub-one x.id.0 ∙ ap pred did.says.1 in
             let box : pred x.id.0 ≡ pred (core_at s.controller k.0).message.source.0 = ap pred id_is in
             let none : eqb (call_refusal s (Enter k)) 0 ≡ true = eq-eqb (call_refusal s (Enter k)) 0 (sym enter_is ∙ e) in
@@ -219,12 +219,12 @@ module _ {b active holder keys ranks : List ℕ} (st : Standing b active holder 
         omega (arith, ltb-true k.0 s.controller.m e, st.sound.active_length, st.sound.controller.consistent.m_le)
 
     pub exit_accepted : names_core s.controller k ≡ true → active_at s k.0 ≢ 0 → call_refusal s (Exit k) ≡ 0
-    exit_accepted e h = runs-there s st.sound k e (omega (arith, h))
+    exit_accepted e h = runs_there s st.sound k e (omega (arith, h))
 
-    pub exit-refused :
+    pub exit_refused :
         {r : Stepped} (number : ℕ) → call_refusal s (Exit k) ≡ number → number ≢ 0 → Answers r number 0 0 0 →
         Did s (Exit k) r b active holder keys ranks
-    exit-refused number e h says = stays (Exit k) number e h refl says st.held
+    exit_refused number e h says = stays (Exit k) number e h refl says st.held
 
     module _ (e : call_refusal s (Exit k) ≡ 0) {x : Outcome} {b₁ keys₁ ranks₁ : List ℕ}
         (did : Executed b (OnSource (source_id (active_at s k.0)) Complete) x b₁ keys₁ ranks₁) where
@@ -246,11 +246,11 @@ module _ {b active holder keys ranks : List ℕ} (st : Standing b active holder 
         exit_cycles =
             omega (arith, cycles_sum, call_cycles_bounded s (Exit k), st.sound.controller.consistent.m_le)
 
-        pub exit-done :
+        pub exit_done :
             {r : Stepped} {active' : List ℕ} → Answers r 0 0 (x.cycles + y.cycles) 0 → active' ≡ set active k.0 0 →
             Did s (Exit k) r b₂ active' holder keys₂ ranks₂
         unfolding exited
-        exit-done (en, ei, ec, ef) ea =
+        exit_done (en, ei, ec, ef) ea =
             record {
               says = (en ∙ rw exit, ei ∙ rw exit, ec ∙ cycles_sum, ef);
               held = rw exit (subst (λ (a : Answer). Held a.state b₂ keys₂ ranks₂) completed low.held);

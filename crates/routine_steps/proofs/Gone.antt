@@ -1,7 +1,7 @@
 -- A list's simulation before the first call, and after one more. Assumes nothing.
 --   begun_sound, begun_unsound    before the first
 --   go_refused                    on an unsound simulation every call is 1
---   stands, gone-on               on a sound one a call does what the definition says, and the simulation stays sound
+--   stands, gone_on               on a sound one a call does what the definition says, and the simulation stays sound
 use Prim.Native.Nat.{ℕ}
 use mathlib.Core.Path.{◌≡◌, refl, sym, ap, subst, ◌∙◌}
 use mathlib.Core.Logic.{◌≢◌}
@@ -74,10 +74,10 @@ module _ {sound : Bool} {b active holder keys ranks : List ℕ} (g : Running sou
     stands = record { held = g.held e; sound = (routines_test_exact s).0 (sym g.tested ∙ e) }
 
     -- d is the call by its parts
-    pub gone-on :
+    pub gone_on :
         {d : RoutineCall} {r : Stepped} {b' active' holder' keys' ranks' : List ℕ} → c ≡ d →
         Did s d r b' active' holder' keys' ranks' → Went s c sound r b' active' holder' keys' ranks'
-    gone-on {d} {r} {b'} {active'} {holder'} {keys'} {ranks'} is by_parts =
+    gone_on {d} {r} {b'} {active'} {holder'} {keys'} {ranks'} is by_parts =
         let done : Did s c r b' active' holder' keys' ranks'
         = subst (λ (x : RoutineCall). Did s x r b' active' holder' keys' ranks') (sym is) by_parts in
         let kept : SoundRoutines (call_routine s c).state = routines_kept s c stands.sound in

@@ -1,7 +1,7 @@
 -- The numbers for no of the calls on a sound simulation: those of the controller's own commands. Assumes nothing.
 --   refused_as                     past the test, the later checks decide
 --   command_number                 the controller's command answers the number of its checks
---   direct-number, enter_number    of a command on a source, and of an entry, which is refused as its claim is
+--   direct_number, enter_number    of a command on a source, and of an entry, which is refused as its claim is
 --   core_refused, idle_core            of an exit
 use Prim.Native.Nat.{◌<◌}
 use mathlib.Core.Path.{◌≡◌, sym, ◌∙◌}
@@ -38,10 +38,10 @@ module _ (s : Routines) (sound : SoundRoutines s) where
       by_answer s.controller o (λ (a : Answer). a.number ≡ refusal_of s.controller o)
       (λ e. sym (sym (passed o) ∙ e)) (λ h. passed o)
 
-  pub direct-number :
+  pub direct_number :
       (id : SourceId) (a : DirectAction) → (execute s.controller (command_of id a)).number ≡ call_refusal s (Direct id a)
   unfolding call_refusal_of
-  direct-number id a = command_number (command_of id a) ∙ sym (refused_as (Direct id a))
+  direct_number id a = command_number (command_of id a) ∙ sym (refused_as (Direct id a))
 
   pub enter_number : (k : CoreId) → (claim_on s k).number ≡ call_refusal s (Enter k)
   unfolding refusal_of call_refusal_of
@@ -55,7 +55,7 @@ module _ (s : Routines) (sound : SoundRoutines s) where
   unfolding call_refusal_of
   idle_core k e z = refused_as (Exit k) ∙ rw (e, z)
 
-  pub runs-there :
+  pub runs_there :
       (k : CoreId) → names_core s.controller k ≡ true → 0 < active_at s k.0 → call_refusal s (Exit k) ≡ 0
   unfolding call_refusal_of
-  runs-there k e h = refused_as (Exit k) ∙ rw (e, lt-ltb 0 (active_at s k.0) h)
+  runs_there k e h = refused_as (Exit k) ∙ rw (e, lt-ltb 0 (active_at s k.0) h)

@@ -48,7 +48,7 @@ pub record Simulated (cs : List RoutineCall) (done : SimulateCall) : Type 0 wher
       (r c : ℕ) → r < max_cores → c < max_cores →
       get_or done.table (max_cores * r + c) 0 ≡ min most_handovers (handovers (events_in [] cs done.answers) r c)
   -- each source's count of dropped triggers
-  pub dropped-is :
+  pub dropped_is :
       (i : ℕ) →
       (source_at (state_from done.memory.bytes) i).dropped ≡ min most_dropped (dropped_in (events_in [] cs done.answers) (suc i))
 

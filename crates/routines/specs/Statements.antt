@@ -123,7 +123,7 @@ pub record StrictlyRun (s : Routines) : Type 0 where
       (i j k : ℕ) → i < s.controller.n → candidate (source_at s.controller i) ≡ true → Runs s j k →
       (source_at s.controller i).priority ≤ (source_at s.controller j).priority
   -- "a core idles only if none waits unmasked"
-  pub none-waits :
+  pub none_waits :
       (i k : ℕ) → i < s.controller.n → k < s.controller.m → active_at s k ≡ 0 → candidate (source_at s.controller i) ≡ false
   -- a core that doesn't idle runs a request
   pub runs_or_idles : (k : ℕ) → k < s.controller.m → active_at s k ≢ 0 → (i : ℕ) × Runs s i k

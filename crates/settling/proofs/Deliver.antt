@@ -18,7 +18,7 @@ use Rattle.settling.specs.Phases.{Delivering}
 use Rattle.settling.proofs.Writes.{Names, names?, put_back_at_named, put_back_at_unnamed, put_back_at_undelivered, delivered_to}
 use Rattle.settling.proofs.Writes.{core_deliver_same, core_deliver_other, source_deliver_same, source_deliver_other}
 use Rattle.settling.proofs.Keeps.{deliver_keeps, kept_n, kept_pending, kept_priority}
-use Rattle.settling.proofs.OneBox.{BoxWritten, BoxFits, each-core, box_written_consistent}
+use Rattle.settling.proofs.OneBox.{BoxWritten, BoxFits, each_core, box_written_consistent}
 use Rattle.settling.proofs.OneBoxClaims.{MarksFollow, box_written_claimed}
 use Rattle.settling.proofs.Arbitrated.{Arbitrated, CandidateBefore, stayed, evicted, index_in, number_in, was_pending}
 use Rattle.settling.proofs.Arbitrated.{was_undelivered, not_held, configured_le_current}
@@ -86,7 +86,7 @@ module _ {s : Controller} {i k : ℕ} (a : Arbitrated s i k) where
 
   clean : (j : ℕ) → j < (deliver s i k).m → (core_at (deliver s i k) j).message.dirty ≡ false
   clean =
-      each-core s (deliver s i k) k written (λ (d : Core). d.message.dirty ≡ false)
+      each_core s (deliver s i k) k written (λ (d : Core). d.message.dirty ≡ false)
       (rw here)
       (λ j h q. a.delivering.clean j h)
 
@@ -94,13 +94,13 @@ module _ {s : Controller} {i k : ℕ} (a : Arbitrated s i k) where
       (j : ℕ) → j < (deliver s i k).m → (core_at (deliver s i k) j).message.filled ≡ true →
       (core_at (deliver s i k) j).configured ≤ current_priority (core_at s k)
   covered_le =
-      each-core s (deliver s i k) k written (λ (d : Core). d.message.filled ≡ true → d.configured ≤ current_priority (core_at s k))
+      each_core s (deliver s i k) k written (λ (d : Core). d.message.filled ≡ true → d.configured ≤ current_priority (core_at s k))
       (rw here (λ f. configured_le_current a))
       (λ j h q. a.delivering.covered j k h a.won.core_in)
 
   least_le : (j : ℕ) → j < (deliver s i k).m → current_priority (core_at s k) ≤ current_priority (core_at (deliver s i k) j)
   least_le =
-      each-core s (deliver s i k) k written (λ (d : Core). current_priority (core_at s k) ≤ current_priority d)
+      each_core s (deliver s i k) k written (λ (d : Core). current_priority (core_at s k) ≤ current_priority d)
       (rw deliver_current_same (le_of_lt a.won.above))
       (λ j h q. a.won.least j h)
 

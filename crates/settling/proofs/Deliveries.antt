@@ -17,20 +17,20 @@ use Rattle.model.specs.WellFormed.{Consistent, NoneAbove}
 use Rattle.model.specs.Settling.{deliver, next}
 use Rattle.lists.proofs.Bools.{clash}
 use Rattle.model.proofs.Candidates.{candidate_pending}
-use Rattle.lists.proofs.Counting.{reached, reached_le, reached-more}
+use Rattle.lists.proofs.Counting.{reached, reached_le, reached_more}
 use Rattle.settling.specs.Phases.{Delivering, Strict, Ended}
 use Rattle.settling.proofs.Writes.{core_deliver_other}
 use Rattle.settling.proofs.Keeps.{deliver_keeps, kept_n, kept_m, kept_priority}
 use Rattle.settling.proofs.Arbitrated.{Arbitrated, CandidateBefore, stayed, evicted}
 use Rattle.settling.proofs.Deliver.{deliver_consistent, deliver_current_same, deliver_delivering, deliver_claimed, deliver_candidate}
 use Rattle.settling.proofs.Next.{Contest, Next, resting, retracting, arbitrating, next_cases}
-use Rattle.settling.proofs.Run.{ended_here, ended-step, ended_within}
+use Rattle.settling.proofs.Run.{ended_here, ended_step, ended_within}
 
 -- ---- at rest the state is sound, but for its last layer
 
 settled_strict : {s : Controller} → Consistent s → Delivering s → NoneAbove s → Strict s
 settled_strict c d st =
-    record { consistent = c; clean = d.clean; quiet = record { candidates_settled_lem = st; covered-settled = d.covered } }
+    record { consistent = c; clean = d.clean; quiet = record { candidates_settled_lem = st; covered_settled_lem = d.covered } }
 
 -- ---- one delivery
 
@@ -72,7 +72,7 @@ module _ (s : Controller) (p : ℕ) (run : Running s p) (i k : ℕ) (c : Contest
 
   reached_deliver : reached s.m p (current s) < reached s.m (source_at s i).priority (current (deliver s i k))
   reached_deliver =
-      reached-more p (source_at s i).priority (current s) (current (deliver s i k)) s.m
+      reached_more p (source_at s i).priority (current s) (current (deliver s i k)) s.m
       (λ j u. current_deliver j) k c.core_in
       (omega (arith, c.above, run.capped i c.source_in c.is_candidate))
       (omega (arith, deliver_current_same arbitrated))
@@ -121,7 +121,7 @@ running_end (suc f) p s run h = go (move s p run) (running_end f)
     go (still e w) rest = ended_within (ended_here s e w (suc f)) 0 (short s p) (omega arith) (omega arith)
     go (moving i k e a after less) rest =
         ended_within
-        (ended-step s (Deliver (source_id (suc i)) (core_id k)) e (kept_n s (deliver s i k) (deliver_keeps s i k)) (deliver_claimed a)
+        (ended_step s (Deliver (source_id (suc i)) (core_id k)) e (kept_n s (deliver s i k) (deliver_keeps s i k)) (deliver_claimed a)
         (rest (source_at s i).priority (deliver s i k) after (omega arith)))
         0 (short s p) (omega arith) (omega arith)
 
@@ -137,5 +137,5 @@ deliveries_end s c d f h = ended_within (running_end f top s start (omega arith)
         record {
           consistent = c;
           delivering = d;
-          capped = λ i p e. (c.request-range i p (candidate_pending (source_at s i) e)).1;
+          capped = λ i p e. (c.request_range i p (candidate_pending (source_at s i) e)).1;
         }

@@ -43,9 +43,9 @@ pub record BoxFits (s s' : Controller) (k : ℕ) : Type 0 where
 
 module _ (s s' : Controller) (k : ℕ) (w : BoxWritten s s' k) where
   -- a law of the cores: of core k by what was written, of the others as they were
-  pub each-core :
+  pub each_core :
       (P : Core → Type 0) → P (core_at s' k) → ((j : ℕ) → j < s.m → j ≢ k → P (core_at s j)) → (j : ℕ) → j < s'.m → P (core_at s' j)
-  each-core P here there j h = go (ℕ_discrete j k)
+  each_core P here there j h = go (ℕ_discrete j k)
     where
       go : Dec (j ≡ k) → P (core_at s' j)
       go (yes e) = rw e here
@@ -80,7 +80,7 @@ module _ (s s' : Controller) (k : ℕ) (c : Consistent s) (k_in : k < s.m) (w : 
       sym (unmarked_is (source_at s' i) idle) ∙ kept_source s s' w.kept i ∙ ap (with_delivered false) e
 
   still_idle : (i : ℕ) → i < s.n → (source_at s i).pending ≡ false → ((source_at s' i).delivered ≡ false) × ((source_at s' i).priority ≡ 0)
-  still_idle i h e = (w.stays_idle i e (c.idle-source i h e).0, kept_priority s s' w.kept i ∙ (c.idle-source i h e).1)
+  still_idle i h e = (w.stays_idle i e (c.idle_source i h e).0, kept_priority s s' w.kept i ∙ (c.idle_source i h e).1)
 
   module _ (b : BoxFits s s' k) where
     still_alone : (j : ℕ) → j < s.m → j ≢ k → BoxFilled s' j → BoxFilled s' k → ¬ (SameSource (core_at s' j) (core_at s' k))
@@ -114,15 +114,15 @@ module _ (s s' : Controller) (k : ℕ) (c : Consistent s) (k_in : k < s.m) (w : 
           sources_length = kept_sources_length s s' w.kept ∙ c.sources_length;
           cores_length = kept_cores_length s s' w.kept ∙ c.cores_length;
           configured_source = λ i h. rw (same_n, kept_configured s s' w.kept i) (c.configured_source i (omega (arith, same_n)));
-          request-range = λ i h p. rw (same_n, kept_priority s s' w.kept i)
-              (c.request-range i (omega (arith, same_n)) (rw (kept_pending s s' w.kept i) at p));
-          idle-source = λ i h p. still_idle i (omega (arith, same_n)) (rw (kept_pending s s' w.kept i) at p);
+          request_range = λ i h p. rw (same_n, kept_priority s s' w.kept i)
+              (c.request_range i (omega (arith, same_n)) (rw (kept_pending s s' w.kept i) at p));
+          idle_source = λ i h p. still_idle i (omega (arith, same_n)) (rw (kept_pending s s' w.kept i) at p);
           configured_core = λ j h. rw (same_n, kept_core_configured s s' w.kept j) (c.configured_core j (omega (arith, same_m)));
           unfilled_box =
-              each-core s s' k w (λ (d : Core). d.message.filled ≡ false → d.message ≡ empty_box)
+              each_core s s' k w (λ (d : Core). d.message.filled ≡ false → d.message ≡ empty_box)
               b.empty (λ j h q. c.unfilled_box j h);
           spare_source = λ i h h'. still_spare i (c.spare_source i (omega (arith, same_n)) h');
           spare_core = λ j h h'. w.core_other j (omega (arith, same_m)) ∙ c.spare_core j (omega (arith, same_m)) h';
-          backed = each-core s s' k w (λ (d : Core). d.message.filled ≡ true → Holding s' d) b.backed other_backed;
+          backed = each_core s s' k w (λ (d : Core). d.message.filled ≡ true → Holding s' d) b.backed other_backed;
           distinct = λ j l h h'. still_distinct j l (omega (arith, same_m)) (omega (arith, same_m));
         }

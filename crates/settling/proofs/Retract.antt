@@ -13,7 +13,7 @@ use Rattle.settling.specs.Phases.{AllDirty}
 use Rattle.settling.proofs.Writes.{put_back_at_named, put_back_at_unnamed, put_back_at_undelivered, core_retract_same, core_retract_other}
 use Rattle.settling.proofs.Writes.{source_retract}
 use Rattle.settling.proofs.Keeps.{retract_keeps}
-use Rattle.settling.proofs.OneBox.{BoxWritten, BoxFits, each-core, box_written_consistent}
+use Rattle.settling.proofs.OneBox.{BoxWritten, BoxFits, each_core, box_written_consistent}
 use Rattle.settling.proofs.OneBoxClaims.{MarksFollow, box_written_claimed}
 
 module _ (s : Controller) (k : ℕ) where
@@ -54,7 +54,7 @@ module _ (s : Controller) (k : ℕ) where
 
     pub retract-all_dirty : AllDirty s → AllDirty (retract s k)
     retract-all_dirty dirty =
-        each-core s (retract s k) k written (λ (d : Core). d.message.filled ≡ true → d.message.dirty ≡ true)
+        each_core s (retract s k) k written (λ (d : Core). d.message.filled ≡ true → d.message.dirty ≡ true)
         (λ f. not-filled f)
         (λ j l q. dirty j l)
 

@@ -12,14 +12,14 @@ use Rattle.model.specs.declared.Cycle.TheVariants.{Retract}
 use Rattle.model.specs.Records.{core_id, core_at}
 use Rattle.model.specs.Settling.{retract}
 use Rattle.lists.proofs.Bools.{clash}
-use Rattle.lists.proofs.Counting.{reached, reached_le, reached-more}
+use Rattle.lists.proofs.Counting.{reached, reached_le, reached_more}
 use Rattle.model.specs.WellFormed.{Consistent}
 use Rattle.settling.specs.Phases.{AllDirty, Delivering, Ended}
 use Rattle.settling.proofs.Writes.{core_retract_same, core_retract_other}
 use Rattle.settling.proofs.Keeps.{retract_keeps, kept_n, kept_m}
 use Rattle.settling.proofs.Retract.{retract_consistent, retract-all_dirty, retract_claimed}
 use Rattle.settling.proofs.Next.{NoneDirty, Next, resting, retracting, arbitrating, next_cases}
-use Rattle.settling.proofs.Run.{ended-step, ended_within}
+use Rattle.settling.proofs.Run.{ended_step, ended_within}
 use Rattle.settling.proofs.Deliveries.{deliveries_end}
 
 -- 1 for a dirty box, 0 for a clean one
@@ -44,7 +44,7 @@ module _ (s : Controller) (c : Consistent s) (k : ℕ) (h : k < s.m) (dirty : (c
   fewer_dirty : dirty_boxes (retract s k) < dirty_boxes s
   fewer_dirty =
       rw (kept_m s (retract s k) (retract_keeps s k))
-      (reached-more 1 1 (mark (retract s k)) (mark s) s.m (λ j p. mark_retract j) k h
+      (reached_more 1 1 (mark (retract s k)) (mark s) s.m (λ j p. mark_retract j) k h
       (rw (core_retract_same s k (omega (arith, c.cores_length, c.m_le))) (omega arith))
       (rw dirty (omega arith)))
 
@@ -66,7 +66,7 @@ dirty_end (suc f) s c all enough = go (next_cases s c.some_source c.some_core) (
         let fewer : dirty_boxes (retract s k) < dirty_boxes s = fewer_dirty s c k h dirty in
         let same : (retract s k).m ≡ s.m = kept_m s (retract s k) (retract_keeps s k) in
         ended_within
-        (ended-step s (Retract (core_id k)) e (kept_n s (retract s k) (retract_keeps s k)) (retract_claimed s k c h)
+        (ended_step s (Retract (core_id k)) e (kept_n s (retract s k) (retract_keeps s k)) (retract_claimed s k c h)
         (rest (retract s k) (retract_consistent s k c h) (retract-all_dirty s k c h all) (omega arith)))
         (dirty_boxes s) s.m (omega arith) (omega arith)
 

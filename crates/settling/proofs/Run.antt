@@ -1,7 +1,7 @@
 -- A run of cycles, one cycle at a time: what it needs to end well at rest (`Ended`). Assumes nothing.
 --   settle_rest     at rest the state stays as it is; `count_rest`, `cycles_of-rest`: and nothing is counted
 --   ended_here      so a state at rest has ended, for any number of cycles
---   ended-step      one cycle more in front
+--   ended_step      one cycle more in front
 --   ended_within    larger bounds
 use Prim.Native.Nat.{ℕ, zero, suc, ◌+◌, ◌<◌, ◌≤◌}
 use mathlib.Core.Path.{◌≡◌, refl, ◌∙◌}
@@ -55,10 +55,10 @@ module _ (s : Controller) (c : Cycle) (e : next s ≡ c) where
   unfolding count_of
   count_step kind f = rw (cycle_is s c e, e)
 
-  pub ended-step :
+  pub ended_step :
       (apply c s).n ≡ s.n → ((i : ℕ) → i < s.n → claimed (apply c s) i ≡ claimed s i) → {f r d : ℕ} → Ended (apply c s) f r d →
       Ended s (suc f) (is_retraction c + r) (is_delivery c + d)
-  ended-step n_same kept {f} {r} {d} end =
+  ended_step n_same kept {f} {r} {d} end =
       record {
         strict = rw settle_step end.strict;
         rests = rw settle_step end.rests;

@@ -30,10 +30,10 @@ module _ {A : Type 0} where
   changed_same f d e (x ∷ xs) zero = refl
   changed_same f d e (x ∷ xs) (suc i) = changed_same f d e xs i
 
-  changed-at :
+  changed_at :
       (f : A → A) (d : A) → f d ≡ d → (l : List A) (i j : ℕ) →
       get_or (set l i (f (get_or l i d))) j d ≡ cond (eqb j i) (f (get_or l j d)) (get_or l j d)
-  changed-at f d e l i j = go (flag (eqb j i))
+  changed_at f d e l i j = go (flag (eqb j i))
     where
       go : Flag (eqb j i) → get_or (set l i (f (get_or l i d))) j d ≡ cond (eqb j i) (f (get_or l j d)) (get_or l j d)
       go (on p) = rw (p, eqb-true j i p) (changed_same f d e l i)
@@ -83,7 +83,7 @@ pub source_put_back : (b : MessageBox) (l : List Source) (j : ℕ) → get_or (p
 source_put_back b l j = go (flag b.filled)
   where
     go : Flag b.filled → get_or (put_back b l) j no_source ≡ put_back_at b j (get_or l j no_source)
-    go (on p) = rw p (changed-at (with_delivered false) no_source refl l (index_of b.source) j)
+    go (on p) = rw p (changed_at (with_delivered false) no_source refl l (index_of b.source) j)
     go (off p) = rw p
 
 pub length-put_back : (b : MessageBox) (l : List Source) → length (put_back b l) ≡ length l

@@ -2,7 +2,7 @@
 --   above_by_number              a source's number tells whether its request interrupts a core
 --   core_fits, names_one         the core that the least number tells, and what its box names
 --   offer_none                   a request that is no candidate changes nothing
---   offer_rests, offer-delivers  a request that isn't above it changes nothing; one that is is delivered there
+--   offer_rests, offer_delivers  a request that isn't above it changes nothing; one that is is delivered there
 use Prim.Native.Nat.{ℕ, ◌<◌, ◌≤◌}
 use mathlib.Core.Path.{◌≡◌, sym, ap, ap₂, subst, ◌∙◌}
 use mathlib.Core.List.{List}
@@ -90,9 +90,9 @@ module _ {b keys ranks : List ℕ} {m i : ℕ} {r : Source} (o : Offered (state_
           let held : Holding s (core_at s k) = o.consistent.backed k core_in (rw record_at at f) in
           rw record_at (held.some_id, omega (arith, held.id_le, o.consistent.n_le))
 
-      pub offer-delivers :
+      pub offer_delivers :
           {p q : ℕ} {x : Outcome} {b' keys' ranks' : List ℕ} → p ≡ priority_of (get_or ranks i 0) → q ≡ current_of key → q < p →
           Delivers i r k c b keys ranks b' keys' ranks' → Says x 0 0 1 → Leaves (delivered_once s i) x b' keys' ranks'
-      offer-delivers {p} {q} ep eq h delivers says =
+      offer_delivers {p} {q} ep eq h delivers says =
           let wins : interrupted_by (core_at s low) (source_at s i) ≡ true = decided ep eq ∙ lt-ltb q p h in
           rw (wins, ← (found ∙ told.0)) (record { says = says; held = delivers s o.held o.record_is record_at })

@@ -1,6 +1,6 @@
 -- A command on a source, on the bytes of a sound state, from what the code reads and stores. Assumes nothing.
 --   cores_fit                    the number of cores that is read
---   bad-source, named_by         a source that there isn't, and one that there is; some_id, in_array are its id and its place
+--   bad_source, named_by         a source that there isn't, and one that there is; some_id, in_array are its id and its place
 --   Judged, judged               what the checks find of the record named
 --   refused_later                a refused command leaves bytes and numbers as they were, but for 6
 --   dropped                      a trigger refused by 6: the record with one more dropped is stored
@@ -43,7 +43,7 @@ use Rattle.in_place.specs.Held.{source_place, Held}
 use Rattle.in_place.specs.Steps.{Says, Ready, Leaves, Executed}
 use Rattle.in_place.proofs.Numbering.{sizes_read}
 use Rattle.in_place.proofs.Refused.{refused}
-use Rattle.in_place.proofs.Stored.{held_back, held-source}
+use Rattle.in_place.proofs.Stored.{held_back, held_source}
 use Rattle.source_steps.specs.Offers.{Offered}
 
 -- The id is a source's, m the number of cores, r the record, and k the number of the checks after that of the id.
@@ -67,10 +67,10 @@ module _ {b keys ranks : List ℕ} (p : Ready b keys ranks) where
       (id : SourceId) {n : ℕ} {t y : Bool} → n ≡ word_at b 0 → t ≡ between 1 n id.0 → t ≡ y → names_source s id ≡ y
   named_by id read-n asked is = rw (read-n ∙ (sizes_read b).0) at (sym asked ∙ is)
 
-  pub bad-source :
+  pub bad_source :
       (id : SourceId) (a : SourceAction) {o : Outcome} → names_source s id ≡ false → Says o 4 0 0 →
       Executed b (OnSource id a) o b keys ranks
-  bad-source id a e says = refused p.held (OnSource id a) (at_name s (OnSource id a) tested e) says
+  bad_source id a e says = refused p.held (OnSource id a) (at_name s (OnSource id a) tested e) says
 
   module _ (id : SourceId) (named : names_source s id ≡ true) where
     range : (1 ≤ id.0) × (id.0 ≤ s.n)
@@ -112,7 +112,7 @@ module _ {b keys ranks : List ℕ} (p : Ready b keys ranks) where
       i = id.0 - 1
 
       held : Held (with_source s i q) b₁ keys ranks₁
-      held = held-source p.held i (in_array id l.named) q stored.0 stored.1
+      held = held_source p.held i (in_array id l.named) q stored.0 stored.1
 
       back : state_from b₁ ≡ with_source s i q
       back = held_back held

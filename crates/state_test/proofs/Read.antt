@@ -1,11 +1,11 @@
 -- The passes over records that are read one at a time: each law of a turn, said of a record that is known to be the state's.
 -- Assumes nothing.
 --   sizes_read, holds_read           the sizes that were read, and what the passes are given
---   passes_read, survey-read         both passes make the survey
+--   passes_read, survey_read         both passes make the survey
 --   names_exact                      what `core_in_range` tests of a core, with the sizes that were read
 --   names_read, backs_read           the tests of a sound core succeed
---   twice-read                       its source lies in an earlier box
---   filled-read, empty-read          one core more, with a filled box and with an empty one
+--   twice_read                       its source lies in an earlier box
+--   filled_read, empty_read          one core more, with a filled box and with an empty one
 --   shown_first, shown_read          what the cores show, where the loop begins and with one core more
 --   fits_read, fits_unread           a source is in range just if its record is
 --   raised_read, same_read           the greatest priority of a candidate, with one source more
@@ -70,10 +70,10 @@ module _ (b : List ℕ) where
     pub passes_read : InRange n m → consistent s ≡ both_sound s
     passes_read r = consistent_passes s (rw (n_is, m_is) at r) (lengths_read b)
 
-    pub survey-read :
+    pub survey_read :
         InRange n m → {top : ℕ} {v w : Surveyed} → top ≡ top_priority n → v ≡ cores_survey s → cores_sound s ≡ true →
         w ≡ sources_survey v s.sources n top → w ≡ survey_of s
-    survey-read r e ev p ew = ew ∙ rw (e, ev, n_is) (survey_passes s (passes_read r) p)
+    survey_read r e ev p ew = ew ∙ rw (e, ev, n_is) (survey_passes s (passes_read r) p)
 
 -- ---- a core
 
@@ -93,22 +93,22 @@ module _ (s : Controller) (k : ℕ) {c : Core} (read : c ≡ core_at s k) where
   shown_read e f = f ∙ rw (e, read) (cores_more s.cores k)
 
   module _ {seen : List Bool} (b : Boxes s seen k) where
-    pub twice-read :
+    pub twice_read :
         1 ≤ c.message.source.0 → c.message.source.0 ≤ max_sources → CoreSound s k → c.message.filled ≡ true →
         get_or seen (c.message.source.0 - 1) false ≡ true → ⊥
-    twice-read = rw read (marked_twice b)
+    twice_read = rw read (marked_twice b)
 
-    pub filled-read :
+    pub filled_read :
         {next : List Bool} →
         CoreNames s.n (top_priority s.n) c → s.n ≤ max_sources → c.message.filled ≡ true →
         get_or seen (c.message.source.0 - 1) false ≡ false →
         backs c (get_or s.sources (c.message.source.0 - 1) no_source) ≡ true →
         next ≡ set seen (c.message.source.0 - 1) true → Boxes s next (k + 1)
-    filled-read = rw read (filled_turn b)
+    filled_read = rw read (filled_turn b)
 
-    pub empty-read :
+    pub empty_read :
         {next : List Bool} → CoreNames s.n (top_priority s.n) c → c.message.filled ≡ false → next ≡ seen → Boxes s next (k + 1)
-    empty-read = rw read (empty_turn b)
+    empty_read = rw read (empty_turn b)
 
 pub shown_first :
     (l : List Core) {c : Core} {p : ℕ} {v : Surveyed} → c ≡ get_or l 0 no_core → p ≡ current_priority c →

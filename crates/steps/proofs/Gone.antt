@@ -1,7 +1,7 @@
 -- What a list's state is before the first command, and after one more. Assumes nothing.
 --   begun_sound, begun_unsound    before the first
 --   go_refused                    on an unsound state every command is 1
---   ready, gone-on                on a sound one a command does what the definition says, and the state stays sound
+--   ready, gone_on                on a sound one a command does what the definition says, and the state stays sound
 use Prim.Native.Nat.{ℕ}
 use mathlib.Core.Path.{◌≡◌, refl, sym, ap, subst, ◌∙◌}
 use mathlib.Core.List.{List}
@@ -53,10 +53,10 @@ module _ {sound : Bool} {b keys ranks : List ℕ} (g : Going sound b keys ranks)
     ready = record { held = g.held e; sound = well_formed-out s (sym g.tested ∙ e) }
 
     -- d is the command by its parts
-    pub gone-on :
+    pub gone_on :
         {d : Command} {r : Outcome} {b' keys' ranks' : List ℕ} →
         c ≡ d → Executed b d r b' keys' ranks' → Went (execute s c) sound r b' keys' ranks'
-    gone-on {d} {r} {b'} {keys'} {ranks'} is did =
+    gone_on {d} {r} {b'} {keys'} {ranks'} is did =
         let done : Executed b c r b' keys' ranks' = subst (λ (e : Command). Executed b e r b' keys' ranks') (sym is) did in
         let kept : WellFormed (execute s c).state = well_formed-kept s c ready.sound in
         let back : state_from b' ≡ (execute s c).state = held_back done.held in

@@ -22,25 +22,25 @@ use Rattle.theorems.proofs.Rows.{rows_met}
 -- What settling and refusals keep is after a command what the effect makes of it, or what it was if the command is refused.
 module _ {A : Type 0} (read : Controller → A) (kept : (f : ℕ) (s : Controller) → read (settle f s) ≡ read s)
     (stays : (s : Controller) (c : Command) (number : ℕ) → read (after_refusal s c number) ≡ read s) where
-  read-execute :
+  read_execute :
       (s : Controller) (c : Command) (after : A) → (refusal s c ≡ 0 → read (effect s c) ≡ after) →
       read (execute s c).state ≡ cond (eqb (refusal s c) 0) after (read s)
   unfolding settled refused
-  read-execute s c after h =
+  read_execute s c after h =
       by_answer s c (λ a. read a.state ≡ cond (eqb (refusal s c) 0) after (read s))
       (λ e. rw (eq-eqb (refusal s c) 0 e) (kept _ _ ∙ h e))
       (λ n. rw (ne_eqb (refusal s c) 0 n) (stays s c (refusal s c)))
 
 pub pending_changes : PendingChanges
 pending_changes s c i =
-    read-execute (λ x. (source_at x i).pending) (λ f x. kept_pending x (settle f x) (settling_leaves_bare f x) i)
+    read_execute (λ x. (source_at x i).pending) (λ f x. kept_pending x (settle f x) (settling_leaves_bare f x) i)
     (λ x d number. drop_read (λ (r : Source). r.pending) (λ y r. refl) x d number i) s c
     (source_in c (suc i) (source_at s i)).pending
     (λ e. ap (λ (r : Source). r.pending) ((rows_met s c e).sources i))
 
 pub configured_changes : ConfiguredChanges
 configured_changes s c k =
-    read-execute (λ x. (core_at x k).configured) (λ f x. kept_core_configured x (settle f x) (settling_leaves_bare f x) k)
+    read_execute (λ x. (core_at x k).configured) (λ f x. kept_core_configured x (settle f x) (settling_leaves_bare f x) k)
     (λ x d number. beside (λ t. (core_at t k).configured) x (λ l. refl) d number) s c
     (core_in c k (core_at s k)).configured
     (λ e. ap (λ (d : Core). d.configured) ((rows_met s c e).cores k))

@@ -19,7 +19,7 @@ use Rattle.model.specs.Ledger.{Ledger, claimed_request, priority_of, write_core,
 use Rattle.lists.specs.Rows.{write}
 use Rattle.lists.proofs.Bools.{refuted}
 use Rattle.model.proofs.Boxes.{holds_filled, holds_source, unboxed_in, boxed_agree}
-use Rattle.lists.proofs.Writes.{read_set, read_kept, read-written}
+use Rattle.lists.proofs.Writes.{read_set, read_kept, read_written}
 use Rattle.effects.proofs.CoreEffects.{claimed_cores, set_cores}
 use Rattle.theorems.specs.Matches.{Matches, request_of}
 use Rattle.theorems.proofs.Requests.{pending_priority}
@@ -30,7 +30,7 @@ module _ (n m : ℕ) (b : Ledger) (s : Controller) (M : Matches n m b s) (W : We
 
   core_written : (c : Core) (p : ℕ) → p ≡ c.configured → (j : ℕ) → j < m → write b.core k p j ≡ (core_at (with_core s k c) j).configured
   core_written c p value j h =
-      read-written (λ x y. y.configured) s.cores k j c no_core inside j k (λ e. e, λ e. e) (λ e. value) (M.core j h)
+      read_written (λ x y. y.configured) s.cores k j c no_core inside j k (λ e. e, λ e. e) (λ e. value) (M.core j h)
 
   module _ (p : ℕ) where
     -- core k with its new priority, before its box is soiled
@@ -55,7 +55,7 @@ module _ (n m : ℕ) (b : Ledger) (s : Controller) (M : Matches n m b s) (W : We
         }
 
   -- the box of core k holds the request of source i + 1
-  module _ (i : ℕ) (source-named : i < n) (filled : (core_at s k).message.filled ≡ true)
+  module _ (i : ℕ) (source_named : i < n) (filled : (core_at s k).message.filled ≡ true)
       (names : (core_at s k).message.source.0 ≡ suc i) where
     backed : Holding s (core_at s k)
     backed = W.consistent.backed k (omega arith) filled
@@ -70,7 +70,7 @@ module _ (n m : ℕ) (b : Ledger) (s : Controller) (M : Matches n m b s) (W : We
     same_priority = rw names at backed.same_priority
 
     ledger_priority : priority_of (b.request (suc i)) ≡ (source_at s i).priority
-    ledger_priority = pending_priority n m b s M i source-named pending
+    ledger_priority = pending_priority n m b s M i source_named pending
 
     -- no other box names the source
     not_elsewhere : (j : ℕ) → j < s.m → j ≢ k → holds (suc i) (core_at s j) ≡ false
@@ -91,10 +91,10 @@ module _ (n m : ℕ) (b : Ledger) (s : Controller) (M : Matches n m b s) (W : We
         (λ x h. read_kept (λ y c. holds (suc j) c) s.cores k x (claimed_core (core_at s k)) no_core
         (rw (filled, names, ne_eqb (suc i) (suc j) (omega arith))))
 
-    request-claimed :
+    request_claimed :
         (j : ℕ) → j < n →
         write b.request (suc i) (claimed_request (priority_of (b.request (suc i)))) (suc j) ≡ request_of (with_cores s (claimed_cores s k)) j
-    request-claimed j h = go (ℕ_discrete j i)
+    request_claimed j h = go (ℕ_discrete j i)
       where
         go :
             Dec (j ≡ i) →
@@ -113,5 +113,5 @@ module _ (n m : ℕ) (b : Ledger) (s : Controller) (M : Matches n m b s) (W : We
           core = core_written (claimed_core (core_at s k)) (priority_of (b.request (suc i))) (ledger_priority ∙ same_priority);
           configured = M.configured;
           masked = M.masked;
-          request = request-claimed;
+          request = request_claimed;
         }

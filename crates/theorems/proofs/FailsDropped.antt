@@ -1,6 +1,6 @@
 -- The statements on dropped triggers are false of controllers that count wrongly. Assumes nothing.
---   fails-history    one list of commands from a fresh controller, computed: the count of source 1 isn't that of the answers
---   fails-changes    one command on one state: the count of the source that it names isn't what it has to be
+--   fails_history    one list of commands from a fresh controller, computed: the count of source 1 isn't that of the answers
+--   fails_changes    one command on one state: the count of the source that it names isn't what it has to be
 use Prim.Native.Nat.{ℕ, min}
 use mathlib.Core.Path.{◌≡◌, refl}
 use mathlib.Core.List.{List, [], ◌∷◌}
@@ -26,38 +26,38 @@ abbrev trigger : Command
 trigger = OnSource (source_id 1) Trigger
 
 module _ (x : Behaviour) where
-  pub fails-history :
+  pub fails_history :
       (cs : List Command) →
       eqb (source_at (run_by x (reset 1 1) cs) 0).dropped (min most_dropped (drops_in 1 (entries_by x (reset 1 1) cs))) ≡ false →
       ¬ DroppedIsHistory x
-  fails-history cs differ h = eqb-false _ _ differ (h 1 1 cs 0)
+  fails_history cs differ h = eqb-false _ _ differ (h 1 1 cs 0)
 
-  pub fails-changes :
+  pub fails_changes :
       (s : Controller) (c : Command) →
       eqb (source_at (x s c).state 0).dropped
       (cond (drops 1 c (x s c).number) (one_more_up_to most_dropped (source_at s 0).dropped) (source_at s 0).dropped) ≡ false →
       ¬ DroppedChanges x
-  fails-changes s c differ h = eqb-false _ _ differ (h s c 0)
+  fails_changes s c differ h = eqb-false _ _ differ (h s c 0)
 
 pub uncounted_fails_dropped : ¬ DroppedIsHistory uncounted
 unfolding booked drops_in
-uncounted_fails_dropped = fails-history uncounted (trigger ∷ trigger ∷ []) refl
+uncounted_fails_dropped = fails_history uncounted (trigger ∷ trigger ∷ []) refl
 
 -- so a count that is at most the number of refusals isn't enough
 pub refuse_everything-fails_dropped : ¬ DroppedIsHistory (refuse_everything already_pending)
 unfolding booked drops_in
-refuse_everything-fails_dropped = fails-history (refuse_everything already_pending) (trigger ∷ []) refl
+refuse_everything-fails_dropped = fails_history (refuse_everything already_pending) (trigger ∷ []) refl
 
 -- a request that waits isn't completed: 8
 pub counts_refusals-fails_dropped : ¬ DroppedIsHistory counts_refusals
 unfolding booked drops_in
-counts_refusals-fails_dropped = fails-history counts_refusals (trigger ∷ OnSource (source_id 1) Complete ∷ []) refl
+counts_refusals-fails_dropped = fails_history counts_refusals (trigger ∷ OnSource (source_id 1) Complete ∷ []) refl
 
 -- one dropped, then claimed and completed
 pub complete_clears-fails_dropped : ¬ DroppedIsHistory complete_clears
 unfolding booked drops_in
 complete_clears-fails_dropped =
-    fails-history complete_clears
+    fails_history complete_clears
     (OnSource (source_id 1) Unmask ∷ trigger ∷ trigger ∷ OnCore (core_id 0) Claim ∷ OnSource (source_id 1) Complete ∷ []) refl
 
 -- source 1 with a request and the largest count
@@ -66,4 +66,4 @@ full = let s : Controller = (execute (reset 1 1) trigger).state in with_source s
 
 pub wrapping_fails_dropped : ¬ DroppedChanges wrapping
 unfolding booked drops_in
-wrapping_fails_dropped = fails-changes wrapping full trigger refl
+wrapping_fails_dropped = fails_changes wrapping full trigger refl

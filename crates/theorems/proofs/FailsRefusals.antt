@@ -1,6 +1,6 @@
 -- The statements on refusals are false of controllers that refuse wrongly. Assumes nothing.
 --   fails_refusals     a number other than `execute`'s, at one state and command: the rows fit no two
---   fails-unchanged    the answer of a refusal, other than 6, that differs, in one number, from the state given with id 0 and 0 cycles
+--   fails_unchanged    the answer of a refusal, other than 6, that differs, in one number, from the state given with id 0 and 0 cycles
 use Prim.Native.Nat.{ℕ}
 use mathlib.Core.Path.{◌≡◌, refl, ap}
 use mathlib.Core.Logic.{◌≢◌}
@@ -26,11 +26,11 @@ module _ (x : Behaviour) (s : Controller) (c : Command) where
   pub fails_refusals : eqb (x s c).number (execute s c).number ≡ false → ¬ RefusalsExact x
   fails_refusals differ h = eqb-false _ _ differ (number_unique s c (x s c).number (h s c))
 
-  pub fails-unchanged :
+  pub fails_unchanged :
       (read : Answer → ℕ) → eqb (x s c).number 0 ≡ false → eqb (x s c).number already_pending ≡ false →
       eqb (read (x s c)) (read (answer s (x s c).number 0 0)) ≡ false →
       ¬ RefusedUnchanged x
-  fails-unchanged read refused other differ h = eqb-false _ _ differ (ap read (h s c (eqb-false _ _ refused) (eqb-false _ _ other)))
+  fails_unchanged read refused other differ h = eqb-false _ _ differ (ap read (h s c (eqb-false _ _ refused) (eqb-false _ _ other)))
 
 -- T2 is accepted
 pub refuse_everything-fails_refusals : (number : ℕ) → number ≢ 0 → ¬ RefusalsExact (refuse_everything number)
@@ -59,9 +59,9 @@ sets_under_request-fails_refusals =
 pub fresh_when_refused-fails_unchanged : ¬ RefusedUnchanged fresh_when_refused
 unfolding computed
 fresh_when_refused-fails_unchanged =
-    fails-unchanged fresh_when_refused start (OnSource (source_id 33) Trigger) (λ a. (source_at a.state 3).configured) refl refl refl
+    fails_unchanged fresh_when_refused start (OnSource (source_id 33) Trigger) (λ a. (source_at a.state 3).configured) refl refl refl
 
 -- id 33 of 32: 4 cycles
 pub always_two_m-fails_unchanged : ¬ RefusedUnchanged always_two_m
 unfolding computed
-always_two_m-fails_unchanged = fails-unchanged always_two_m start (OnSource (source_id 33) Trigger) (λ a. a.cycles) refl refl refl
+always_two_m-fails_unchanged = fails_unchanged always_two_m start (OnSource (source_id 33) Trigger) (λ a. a.cycles) refl refl refl

@@ -53,10 +53,10 @@ module _ (x : Behaviour) (n m : ℕ) (sizes : InRange n m) (cs : List Command) w
   not_given k below differ h = eqb-false _ _ differ ((h n m cs sizes).current_given k below)
 
   -- a placement shows the same current priorities and gives fewer requests than there are filled boxes
-  not-fewest :
+  not_fewest :
       (P : ℕ → ℕ) → Placement n m book after P → sort_down (row m (given book P)) ≡ sort_down (current_priorities m after) →
       leb (filled_boxes m after) (placed_by m P) ≡ false → ¬ EveryListStrict x
-  not-fewest P p same fewer h = clash (le-leb _ _ ((h n m cs sizes).fewest-boxes P p same)) fewer
+  not_fewest P p same fewer h = clash (le-leb _ _ ((h n m cs sizes).fewest_boxes P p same)) fewer
 
   other_size : eqb after.n n ≡ false → ¬ EveryListStrict x
   other_size differ h = eqb-false _ _ differ (h n m cs sizes).n_same
@@ -146,4 +146,4 @@ sparing_placed = record { placed = placed; above = above; once = once }
 -- [9,3] with both boxes filled, where [3,9] fills one
 pub tie_to_lowest-fails_three : ¬ EveryListStrict tie_to_lowest
 unfolding booked settle_by_number
-tie_to_lowest-fails_three = not-fewest tie_to_lowest 4 2 four disturbing sparing sparing_placed refl refl
+tie_to_lowest-fails_three = not_fewest tie_to_lowest 4 2 four disturbing sparing sparing_placed refl refl

@@ -61,10 +61,10 @@ module _ (b : Ledger) (s : Controller) (w : WellFormed s) (match : Matches s.n s
       go (on f) = let h : Held b s k = held k below f in rw (f, h.named, lt-ltb 0 (suc h.i) (omega arith), h.request)
       go (off f) = rw (f, match.core k below)
 
-  pub box-priority :
+  pub box_priority :
       (k : ℕ) → k < s.m → (core_at s k).message.filled ≡ true →
       (1 ≤ (core_at s k).message.source.0) × ((core_at s k).message.priority ≡ request_priority b (core_at s k).message.source.0)
-  box-priority k below f = let h : Held b s k = held k below f in rw (h.named, h.request) (omega arith, refl)
+  box_priority k below f = let h : Held b s k = held k below f in rw (h.named, h.request) (omega arith, refl)
 
   filled : (k : ℕ) → 1 ≤ in_boxes s k → (core_at s k).message.filled ≡ true
   filled k p = names_filled (core_at s k).message.filled (core_at s k).message.source.0 p

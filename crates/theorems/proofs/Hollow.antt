@@ -54,7 +54,7 @@ hollow_otherwise =
             above = λ k below named. absurd (omega (arith, nowhere k below));
             once = λ j k p q named e. absurd (omega (arith, nowhere j p));
           };
-      box-priority = λ k below f. clash f (empty k below);
+      box_priority = λ k below f. clash f (empty k below);
       none_higher = λ P p. none_higher P;
-      fewest-boxes = λ P p e. omega arith;
+      fewest_boxes = λ P p e. omega arith;
     }

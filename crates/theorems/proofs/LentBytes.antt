@@ -21,7 +21,7 @@ use Rattle.layout.proofs.RoundTrip.{bytes_written_back}
 use Rattle.layout.specs.CallStatements.{RefusedMakeKeeps, RefusedExecuteKeeps, RefusedRunKeeps, AllRefusedKeeps, RestKept, RunKeepsRest}
 use Rattle.layout.proofs.Answers.{read_command, answers_from, controller}
 use Rattle.layout.proofs.Fives.{fives_length}
-use Rattle.layout.proofs.Machines.{answers_length, answers-in-front}
+use Rattle.layout.proofs.Machines.{answers_length, answers_in_front}
 use Rattle.layout.proofs.Lists.{answers_fit}
 use Rattle.exports.proofs.Calls.{run_by}
 use Rattle.theorems.proofs.AnswerBytes.{refused_state, Unaltered, kept_refused}
@@ -79,7 +79,7 @@ all_refused_keeps b list answers are =
     let s = state_from b in
     let cs = commands_in list in
     let rest = drop (answer_size * length cs) answers in
-    ap state_bytes (kept_refused s cs rest (rw (← answers-in-front controller answers s cs (room b list answers e)) h))
+    ap state_bytes (kept_refused s cs rest (rw (← answers_in_front controller answers s cs (room b list answers e)) h))
     ∙ bytes_written_back b are (and_l (is_state b) (room_for list answers) e))
     (λ h. refl)
 
@@ -90,7 +90,7 @@ run_keeps_rest b list answers =
     let v = answers_from (state_from b) (commands_in list) in
     let size = answer_size * length (commands_in list) in (
       length-sets answers 0 v,
-      ap (drop size) (answers-in-front controller answers (state_from b) (commands_in list) (room b list answers e))
+      ap (drop size) (answers_in_front controller answers (state_from b) (commands_in list) (room b list answers e))
           ∙ drop_at v (drop size answers) size (answers_length controller (state_from b) (commands_in list)),
     ))
     (refl, refl)

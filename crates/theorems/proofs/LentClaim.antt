@@ -7,7 +7,7 @@ use native.Mathlib.Omega.{arith}
 use lib.ListN.{length}
 use lib.Seq.{get_or-set_same}
 use borrow.Author.Tests.{lt-ltb}
-use Rattle.borrowed.proofs.Claims.{clean-only, taken_empty, taken-good}
+use Rattle.borrowed.proofs.Claims.{clean_only, taken_empty, taken_good}
 use Rattle.model.proofs.Priorities.{top_rises}
 use Rattle.model.specs.Records.{max_sources, no_core, core_at, with_core, taken}
 use Rattle.model.specs.declared.CoreId.{CoreId}
@@ -58,7 +58,7 @@ module _ (s : Controller) (k : CoreId) (w : WellFormed s) (k_lt : k.0 < s.m) whe
         let (low, high) = box_range s w.consistent k.0 k_lt filled in
         let top : top_priority s.n ≤ top_priority max_sources
         = top_rises s.n max_sources w.consistent.some_source w.consistent.n_le (omega arith) in
-        sym (clean-only c b.some_id (omega arith) low (omega arith) (b.above (w.clean k.0 k_lt))) ∙
+        sym (clean_only c b.some_id (omega arith) low (omega arith) (b.above (w.clean k.0 k_lt))) ∙
         not_in (w.clean k.0 k_lt)
 
     full : taken_from c ≡ left (execute s (OnCore k Claim))
@@ -66,7 +66,7 @@ module _ (s : Controller) (k : CoreId) (w : WellFormed s) (k_lt : k.0 < s.m) whe
         let fits : k.0 < length s.cores = omega (arith, w.consistent.cores_length, w.consistent.m_le) in
         let there : core_at (with_core s k.0 (claimed_core c)) k.0 ≡ claimed_core c
         = get_or-set_same s.cores k.0 (claimed_core c) no_core fits in
-        sym (taken-good c (ap not filled) (sym can_claim) refl refl refl) ∙
+        sym (taken_good c (ap not filled) (sym can_claim) refl refl refl) ∙
         ap (taken 0 c.message.source) (sym there) ∙ sym (ap left (claim_answer s w k k_lt filled))
 
   by_box : Flag c.message.filled → taken_from c ≡ left (execute s (OnCore k Claim))

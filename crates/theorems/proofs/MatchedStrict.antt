@@ -24,7 +24,7 @@ use Rattle.theorems.specs.Matches.{Matches, MatchedStrict}
 use Rattle.lists.proofs.Counts.{Sent, nowhere, to, total_sent, count, count_one, count_row, row_count_le, row_length, row_cong}
 use Rattle.theorems.proofs.Placements.{offered, collection_count, collection_length, Competing, competes_out, placement_count}
 use Rattle.theorems.proofs.Requests.{pending_priority, unboxed_waits}
-use Rattle.theorems.proofs.FilledBoxes.{current_given, box-priority, boxes_placed}
+use Rattle.theorems.proofs.FilledBoxes.{current_given, box_priority, boxes_placed}
 use Rattle.theorems.proofs.Fewest.{fewest}
 use Rattle.lists.proofs.Sorting.{sorted_le, top_of}
 
@@ -54,10 +54,10 @@ module _ (b : Ledger) (s : Controller) where
 
   module _ (w : WellFormed s) (match : Matches s.n s.m b s) where
     -- a request that competes outside the boxes is a candidate's
-    unboxed-settled :
+    unboxed_settled :
         (i k : ℕ) → i < s.n → k < s.m → Competing s.n s.m b s (suc i) → boxed s.cores s.m (suc i) ≡ false →
         request_priority b (suc i) ≤ current k
-    unboxed-settled i k p q c e =
+    unboxed_settled i k p q c e =
         let unmasked : not (b.masked (suc i)) ≡ true = or_off (boxed s.cores s.m (suc i)) (not (b.masked (suc i))) c.placed e in
         let waits : waiting (source_at s i) ≡ true = unboxed_waits s.n s.m b s match i p c.request_open e in
         rw (pending_priority s.n s.m b s match i p (and_l _ _ waits))
@@ -72,7 +72,7 @@ module _ (b : Ledger) (s : Controller) where
       boxed_shown : (i k : ℕ) → k < s.m → In i k → reach t (request_priority b (suc i)) ≤ shown t k
       boxed_shown i k below x =
           let f : (core_at s k).message.filled ≡ true = holds_filled (suc i) (core_at s k) x in
-          rw (f, ← holds_source (suc i) (core_at s k) x, ← (box-priority b s w match k below f).1) (omega arith)
+          rw (f, ← holds_source (suc i) (core_at s k) x, ← (box_priority b s w match k below f).1) (omega arith)
 
       -- where some core's current priority is below the threshold
       module _ (low : ℕ) (low_below : low < s.m) (is-low : current low < t) where
@@ -82,7 +82,7 @@ module _ (b : Ledger) (s : Controller) where
           where
             go : Flag (core_at s k).message.filled → reach t (b.core k) + shown t k ≤ reach t (current k)
             go (on f) =
-                let covered : b.core k < t = omega (arith, match.core k below, w.quiet.covered-settled k low below low_below f) in
+                let covered : b.core k < t = omega (arith, match.core k below, w.quiet.covered_settled_lem k low below low_below f) in
                 rw f (omega (arith, reach_under t (b.core k) covered))
             go (off f) = rw (f, match.core k below) (omega arith)
 
@@ -98,7 +98,7 @@ module _ (b : Ledger) (s : Controller) where
                 let k = boxed_out s.cores s.m (suc i) x in
                 to k.at k.below k.holds (rw (c, count_one) (boxed_shown i k.at k.below k.holds))
             go (on c) (off x) =
-                let settled = unboxed-settled i low below low_below (competes_out s.n s.m b s (suc i) c) x in
+                let settled = unboxed_settled i low below low_below (competes_out s.n s.m b s (suc i) c) x in
                 nowhere (rw (c, count_one) (reach_under t (request_priority b (suc i)) (omega arith)))
             go (off c) x = nowhere (rw c)
 
@@ -134,11 +134,11 @@ module _ (b : Ledger) (s : Controller) where
           m_same = refl;
           top_m = top_of currents everything s.m (row_length s.m current) (collection_length s.n s.m b s) currents_count;
           boxes_placed = boxes_placed b s w match;
-          box-priority = box-priority b s w match;
+          box_priority = box_priority b s w match;
           current_given = current_given b s w match;
           none_higher = λ P p. sorted_le (row s.m (given b P)) currents
               (λ t. omega (arith, currents_count t, row_count_le t s.m (given b P), placement_count t s.n s.m b s P p));
-          fewest-boxes = λ P p. fewest b s w match P;
+          fewest_boxes = λ P p. fewest b s w match P;
         }
 
 pub matched_strict : MatchedStrict

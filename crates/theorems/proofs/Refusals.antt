@@ -187,11 +187,11 @@ module _ {s : Controller} (w : WellFormed s) {id : SourceId} (n : (1 ≤ id.0) �
   complete_none e _ (no_such_source h) = h n
   complete_none e _ (not_completed h) = clash e h
 
-  setting-met :
+  setting_met :
       (p : ℕ) → Flag (between 1 (top_priority s.n) p) →
       Met s (OnSource id (SetSourcePriority p)) (unless (between 1 (top_priority s.n) p) 5 (unless (not pending) 9 0))
-  setting-met p (on e) = rw e (use_met ((between_exact 1 (top_priority s.n) p).0 e) (flag _))
-  setting-met p (off e) = rw e (first 5 (source_priority (λ h. clash ((between_exact 1 (top_priority s.n) p).1 h) e), after_name w n))
+  setting_met p (on e) = rw e (use_met ((between_exact 1 (top_priority s.n) p).0 e) (flag _))
+  setting_met p (off e) = rw e (first 5 (source_priority (λ h. clash ((between_exact 1 (top_priority s.n) p).1 h) e), after_name w n))
 
   trigger_met : Flag pending → Met s (OnSource id Trigger) (unless (not pending) 6 0)
   trigger_met (on e) = rw e (first 6 (is_pending e, trigger_turn))
@@ -206,7 +206,7 @@ module _ {s : Controller} (w : WellFormed s) {id : SourceId} (n : (1 ≤ id.0) �
   complete_met (off e) = rw e (first 8 (not_completed e, complete_turn))
 
   source_met : (a : SourceAction) → Met s (OnSource id a) (source_refusal s (index_of id) a)
-  source_met (SetSourcePriority p) = setting-met p (flag _)
+  source_met (SetSourcePriority p) = setting_met p (flag _)
   source_met Mask = none mask_none
   source_met Unmask = none unmask_none
   source_met Trigger = trigger_met (flag _)
@@ -230,17 +230,17 @@ module _ {s : Controller} (w : WellFormed s) {k : CoreId} (n : k.0 < s.m) where
   claim_none e _ (no_such_core h) = absurd (omega arith)
   claim_none e _ (unfilled_box h) = clash e h
 
-  setting-core-met :
+  setting_core_met :
       (p : ℕ) → Flag (leb p (top_priority s.n)) → Met s (OnCore k (SetCorePriority p)) (unless (leb p (top_priority s.n)) 5 0)
-  setting-core-met p (on e) = rw e (none (setting_core_none (leb-true p (top_priority s.n) e)))
-  setting-core-met p (off e) = rw e (first 5 (core_priority (leb-false p (top_priority s.n) e), after_name w n))
+  setting_core_met p (on e) = rw e (none (setting_core_none (leb-true p (top_priority s.n) e)))
+  setting_core_met p (off e) = rw e (first 5 (core_priority (leb-false p (top_priority s.n) e), after_name w n))
 
   claim_met : Flag (core_at s k.0).message.filled → Met s (OnCore k Claim) (unless (core_at s k.0).message.filled 7 0)
   claim_met (on e) = rw e (none (claim_none e))
   claim_met (off e) = rw e (first 7 (unfilled_box e, claim_turn))
 
   core_met : (a : CoreAction) → Met s (OnCore k a) (core_refusal s k.0 a)
-  core_met (SetCorePriority p) = setting-core-met p (flag _)
+  core_met (SetCorePriority p) = setting_core_met p (flag _)
   core_met Claim = claim_met (flag _)
 
 named_met : {s : Controller} → WellFormed s → (c : Command) → Met s c (refusal_of s c)

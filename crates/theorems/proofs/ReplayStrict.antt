@@ -26,7 +26,7 @@ use Rattle.recording.specs.Calls.{room, fits_replay, replay_call}
 use Rattle.recording.specs.Statements.{as_run, ReplayStrict}
 use Rattle.readings.proofs.Counted.{at_most_65535}
 use Rattle.readings.proofs.Limits.{no_more_than_bytes}
-use Rattle.theorems.proofs.RunStrict.{ran-strict}
+use Rattle.theorems.proofs.RunStrict.{ran_strict}
 
 module _ (n m : ℕ) (t b answers : List ℕ) where
   cs : List Command
@@ -63,7 +63,7 @@ module _ (n m : ℕ) (t b answers : List ℕ) where
     where
       go : Flag (fits_replay t b answers) → Flag (sizes_in_range n m) → Strict n m cs (as_run (replay_call n m t b answers))
       go (on e) (on s) =
-          subst (Strict n m cs) (sym (replay_run e s)) (ran-strict n m ((sizes_exact n m).0 s) answers cs (enough e))
+          subst (Strict n m cs) (sym (replay_run e s)) (ran_strict n m ((sizes_exact n m).0 s) answers cs (enough e))
       go (on e) (off s) = absurd (h (size_number e s))
       go (off e) s = absurd (k (unfit_number e))
 

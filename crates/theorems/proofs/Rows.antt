@@ -23,7 +23,7 @@ use Rattle.model.specs.Records.{max_cores, no_source, no_core, index_of, box_wit
 use Rattle.model.specs.WellFormed.{WellFormed}
 use Rattle.model.specs.Commands.{soiled, claimed_core, source_after, effect, refusal, settled, execute}
 use Rattle.model.specs.Statements.{Change, keep, becomes, changed, core_by, source_row, source_in, core_in, RowsMet}
-use Rattle.lists.proofs.Writes.{read-written}
+use Rattle.lists.proofs.Writes.{read_written}
 use Rattle.effects.proofs.Accepted.{execute_accepted}
 use Rattle.effects.proofs.Checked.{Named, Checked, accepted}
 use Rattle.effects.proofs.Effects.{effect_sizes}
@@ -35,13 +35,13 @@ module _ (s : Controller) (w : WellFormed s) where
   source_written : (id : SourceId) → Named s id → (f : Source → Source) (i : ℕ) →
       source_at (with_source s (index_of id) (f (source_at s (index_of id)))) i ≡ cond (eqb id.0 (suc i)) (f (source_at s i)) (source_at s i)
   source_written id h f i =
-      sym (read-written (λ j r. r) s.sources (pred id.0) i (f (source_at s (index_of id))) no_source (omega arith) id.0 (suc i)
+      sym (read_written (λ j r. r) s.sources (pred id.0) i (f (source_at s (index_of id))) no_source (omega arith) id.0 (suc i)
       (λ e. omega arith, λ e. omega arith) (λ e. rw e) refl)
 
   core_written : (j : ℕ) → j < s.m → (f : Core → Core) (k : ℕ) →
       core_at (with_core s j (f (core_at s j))) k ≡ cond (eqb j k) (f (core_at s k)) (core_at s k)
   core_written j h f k =
-      sym (read-written (λ i c. c) s.cores j k (f (core_at s j)) no_core (omega arith) j k (λ e. sym e, λ e. sym e) (λ e. rw e) refl)
+      sym (read_written (λ i c. c) s.cores j k (f (core_at s j)) no_core (omega arith) j k (λ e. sym e, λ e. sym e) (λ e. rw e) refl)
 
 -- ---- the definition's record of an action is the row's
 

@@ -26,7 +26,7 @@ use Rattle.layout.proofs.RoundTrip.{state_read_back, state_encoded}
 use Rattle.layout.proofs.Commands.{commands_read_back}
 use Rattle.layout.specs.CallStatements.{Strict, ran_fresh, RunStrict, ListStrict}
 use Rattle.layout.proofs.Answers.{read_command, controller}
-use Rattle.layout.proofs.Machines.{answers-in-front}
+use Rattle.layout.proofs.Machines.{answers_in_front}
 use Rattle.layout.proofs.Lists.{answers_fit}
 use Rattle.exports.proofs.Calls.{ran_over, run_fit}
 use Rattle.theorems.proofs.AnswerBytes.{entries_read, cycles_told}
@@ -46,13 +46,13 @@ module _ (n m : ℕ) (R : InRange n m) where
   unfolding make_call
   fresh b h = rw (eq-eqb _ _ h, (makes_exactly n m).0 R)
 
-  pub ran-strict :
+  pub ran_strict :
       (answers : List ℕ) (cs : List Command) → answer_size * length cs ≤ length answers → Strict n m cs (ran_over answers (reset n m) cs)
-  ran-strict answers cs h =
+  ran_strict answers cs h =
       let s = reset n m in
       let w = run-well_formed s cs (reset-well_formed n m R) in
       let rest = drop (answer_size * length cs) answers in
-      let there = answers-in-front controller answers s cs h in
+      let there = answers_in_front controller answers s cs h in
       record {
         taken = refl;
         strict = rw (there, entries_read s cs rest, state_read_back (run s cs) (sized (run s cs) w)) (reset_strict n m cs R);
@@ -67,7 +67,7 @@ run_strict n m b list answers R h e =
     let ran : run_call (make_call n m b).bytes list answers ≡ ran_over answers (reset n m) (commands_in list)
     = ap (λ (x : List ℕ). run_call x list answers) (fresh n m R b h) ∙ run_fit (state_bytes (reset n m)) list answers fits
     ∙ ap (λ (s : Controller). ran_over answers s (commands_in list)) (state_read_back (reset n m) w) in
-    subst (Strict n m (commands_in list)) (sym ran) (ran-strict n m R answers (commands_in list) (answers_fit list answers read_command e))
+    subst (Strict n m (commands_in list)) (sym ran) (ran_strict n m R answers (commands_in list) (answers_fit list answers read_command e))
 
 pub list_strict : ListStrict
 list_strict n m b answers cs R h room =

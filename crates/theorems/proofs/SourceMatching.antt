@@ -11,7 +11,7 @@ use Rattle.model.specs.Records.{no_source, source_at, with_source, with_configur
 use Rattle.model.specs.WellFormed.{WellFormed}
 use Rattle.model.specs.Ledger.{Ledger, Request, no_request, open_request, priority_of, write_configured, write_mask, write_request}
 use Rattle.lists.specs.Rows.{write}
-use Rattle.lists.proofs.Writes.{read_kept, read-written}
+use Rattle.lists.proofs.Writes.{read_kept, read_written}
 use Rattle.theorems.specs.Matches.{request_in, Matches}
 use Rattle.theorems.proofs.Requests.{pending_priority}
 
@@ -40,7 +40,7 @@ module _ (n m : ℕ) (b : Ledger) (s : Controller) (M : Matches n m b s) (W : We
         {A : Type 0} (read : ℕ → Source → A) (f : ℕ → A) {v : A} → v ≡ read i r → Pictures n s read f →
         Pictures n (with_source s i r) read (write f (suc i) v)
     written read f {v} value before j h =
-        read-written read s.sources i j r no_source inside (suc j) (suc i) (λ e. omega arith, λ e. ap suc e) (λ e. rw e value)
+        read_written read s.sources i j r no_source inside (suc j) (suc i) (λ e. omega arith, λ e. ap suc e) (λ e. rw e value)
         (before j h)
 
     source_written :
@@ -63,23 +63,23 @@ module _ (n m : ℕ) (b : Ledger) (s : Controller) (M : Matches n m b s) (W : We
       (kept r (request_in s) b.request refl M.request)
 
   -- a record with the same settings, and the ledger written the request that it stands for
-  request-written :
+  request_written :
       (r : Source) (v : Request) → r.configured ≡ (source_at s i).configured → r.masked ≡ (source_at s i).masked → v ≡ request_in s i r →
       Matches n m (write_request (suc i) v b) (with_source s i r)
-  request-written r v p q value =
+  request_written r v p q value =
       source_written r (kept r configured_of b.configured p M.configured) (kept r masked_of b.masked q M.masked)
       (written r (request_in s) b.request value M.request)
 
   pub trigger_matches : Matches n m (write_request (suc i) (open_request (b.configured (suc i))) b) (with_source s i (opened (source_at s i)))
   trigger_matches =
-      request-written (opened (source_at s i)) (open_request (b.configured (suc i))) refl refl (ap open_request (M.configured i named))
+      request_written (opened (source_at s i)) (open_request (b.configured (suc i))) refl refl (ap open_request (M.configured i named))
 
   pub complete_matches : Matches n m (write_request (suc i) no_request b) (with_source s i (ended (source_at s i)))
-  complete_matches = request-written (ended (source_at s i)) no_request refl refl refl
+  complete_matches = request_written (ended (source_at s i)) no_request refl refl refl
 
   pub redeliver_matches : (source_at s i).pending ≡ true →
       Matches n m (write_request (suc i) (open_request (priority_of (b.request (suc i)))) b)
       (with_source s i (with_delivered false (source_at s i)))
   redeliver_matches e =
-      request-written (with_delivered false (source_at s i)) (open_request (priority_of (b.request (suc i)))) refl refl
+      request_written (with_delivered false (source_at s i)) (open_request (priority_of (b.request (suc i)))) refl refl
       (rw (pending_priority n m b s M i named e, e))

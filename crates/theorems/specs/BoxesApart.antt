@@ -12,10 +12,10 @@ pub record BoxesApart (n m : ℕ) (b : Ledger) (s : Controller) : Type 0 where
   pub m_same : s.m ≡ m
   pub top_m : sort_down (current_priorities m s) ≡ take m (sort_down (collection n m b s))
   pub boxes_placed : Placement n m b s (in_boxes s)
-  pub box-priority :
+  pub box_priority :
       (k : ℕ) → k < m → (core_at s k).message.filled ≡ true →
       (1 ≤ (core_at s k).message.source.0) × ((core_at s k).message.priority ≡ request_priority b (core_at s k).message.source.0)
   pub none_higher :
       (P : ℕ → ℕ) → Placement n m b s P → (j : ℕ) → get_or (sort_down (row m (given b P))) j 0 ≤ get_or (sort_down (current_priorities m s)) j 0
-  pub fewest-boxes :
+  pub fewest_boxes :
       (P : ℕ → ℕ) → Placement n m b s P → sort_down (row m (given b P)) ≡ sort_down (current_priorities m s) → filled_boxes m s ≤ placed_by m P

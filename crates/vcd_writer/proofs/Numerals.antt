@@ -10,7 +10,7 @@ use mathlib.Core.List.{List, [], ◌∷◌}
 use lib.ListN.{length, set, length-set, length-append}
 use lib.Seq.{sets}
 use native.Mathlib.Omega.{arith}
-use Rattle.lists.proofs.Writes.{sets-before}
+use Rattle.lists.proofs.Writes.{sets_before}
 use Rattle.recording.specs.Writing.{digits, digit_byte, numeral_bytes}
 use Rattle.recording.proofs.Digits.{digits_small, digits_more, numeral_small, numeral_more, digits_some, digits_length_le, numeral_length}
 use Rattle.vcd_writer.specs.Lines.{Room, Put}
@@ -61,7 +61,7 @@ module _ (base x mark : ℕ) (b₀ : List ℕ) (end : ℕ) where
           whole = h.whole;
           place = omega (arith, h.first);
           stored =
-              ap (λ (l : List ℕ). sets l start front) e ∙ sets-before b start at front last there
+              ap (λ (l : List ℕ). sets l start front) e ∙ sets_before b start at front last there
               ∙ ap (sets b start) (sym parts) ∙ h.stored;
         }
 

@@ -10,7 +10,7 @@ use lib.ListN.{length, get_or, set, drop, length-set, length-append, drop_of_len
 use lib.Seq.{sets, length-sets, drop-cons}
 use native.Mathlib.Numerals.{add-one}
 use native.Mathlib.Omega.{arith}
-use Rattle.lists.proofs.Writes.{sets-before}
+use Rattle.lists.proofs.Writes.{sets_before}
 use Rattle.vcd_writer.specs.Lines.{Room, Put}
 
 pub put_none : {b : List ℕ} {end : ℕ} → Put b end [] end b
@@ -26,7 +26,7 @@ module _ {b b₁ : List ℕ} {end at : ℕ} {ys : List ℕ} (p : Put b end ys at
         place = omega (arith, length-append xs ys, p.place, q.place);
         stored =
             q.stored ∙ ap (λ (l : List ℕ). sets l start xs) p.stored
-            ∙ sets-before b start at xs ys (sym q.place);
+            ∙ sets_before b start at xs ys (sym q.place);
       }
 
   pub put_one : {x : ℕ} {b₂ : List ℕ} → 0 < at → b₂ ≡ set b₁ (at - 1) x → Put b end (x ∷ ys) (at - 1) b₂

@@ -24,7 +24,7 @@ use Rattle.model.specs.declared.Decoded.TheVariants.{Known}
 use Rattle.layout.specs.Commands.{command_of, number_of, level_of}
 use Rattle.layout.specs.Bytes.{word_at, command_size, one_command, commands_in}
 use Rattle.layout.proofs.Commands.{unknown}
-use Rattle.layout.proofs.Fives.{fives-there, fives_end}
+use Rattle.layout.proofs.Fives.{fives_there, fives_end}
 use Rattle.recording.specs.Words.{all}
 use Rattle.recording.specs.Declarations.{narrow}
 use Rattle.recording.specs.Writing.{core_value, arg_value, command_text, text_from, writable}
@@ -74,12 +74,12 @@ module _ (list : List ℕ) where
     one_more : (c : Command) → command_of (number_at k) (target_at k) (level_at k) ≡ Known c → from k ≡ c ∷ from (suc k)
     one_more c e =
         let next : command_size * k + command_size ≡ command_size * suc k = omega arith in
-        fives-there reads list (command_size * k) inside (ap one_command e)
+        fives_there reads list (command_size * k) inside (ap one_command e)
         ∙ ap (λ (i : ℕ). c ∷ commands_in (drop i list)) next
 
     none_more : 7 < number_at k → from k ≡ []
     none_more h =
-        fives-there reads list (command_size * k) inside
+        fives_there reads list (command_size * k) inside
         (ap one_command (unknown (number_at k) (target_at k) (level_at k) h))
 
   -- ---- whether it is a run

@@ -18,7 +18,7 @@ use Rattle.lists.specs.Rows.{gather, joined}
 use Rattle.lists.specs.Walks.{every}
 use Rattle.lists.proofs.Bools.{and_in, clash, refuted}
 use Rattle.lists.proofs.Walks.{every_out}
-use Rattle.lists.proofs.Writes.{sets-before}
+use Rattle.lists.proofs.Writes.{sets_before}
 use Rattle.layout.specs.Bytes.{word_at, command_size}
 use Rattle.recording.specs.Declarations.{narrow}
 use Rattle.recording.specs.Writing.{digits, definition_text}
@@ -120,7 +120,7 @@ module _ (list : List ℕ) (count : ℕ) (b₀ : List ℕ) where
           inside = omega (arith, p.place, h.inside);
           size = put_length p ∙ h.size;
           stored =
-              ap (λ (l : List ℕ). sets l 0 front) p.stored ∙ sets-before b 0 start front (lines_at list j) (omega arith)
+              ap (λ (l : List ℕ). sets l 0 front) p.stored ∙ sets_before b 0 start front (lines_at list j) (omega arith)
               ∙ ap (sets b 0) (sym (text_more list j)) ∙ ap (λ (n : ℕ). sets b 0 (text_to list n)) more ∙ h.stored;
         }
 

@@ -56,8 +56,8 @@ reset-well_formed n m r =
             sources_length = length-replicate max_sources reset_source;
             cores_length = length-replicate max_cores reset_core;
             configured_source = λ i h. (fits i h).configured;
-            request-range = λ i h. (fits i h).request;
-            idle-source = λ i h. (fits i h).idle;
+            request_range = λ i h. (fits i h).request;
+            idle_source = λ i h. (fits i h).idle;
             configured_core = λ k h. omega (arith, ap (λ (c : Core). c.configured) (core k));
             unfilled_box = λ k h e. ap (λ (c : Core). c.message) (core k);
             spare_source = λ i a b. source_reset n m i b;
@@ -69,7 +69,7 @@ reset-well_formed n m r =
       quiet =
           record {
             candidates_settled_lem = λ i k g h e. clash e (ap candidate (source i g));
-            covered-settled = λ j k g h e. clash e (empty j);
+            covered_settled_lem = λ j k g h e. clash e (empty j);
           };
       frugal = λ j k g h e f. clash e (empty j);
     }

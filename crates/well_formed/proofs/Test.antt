@@ -132,8 +132,8 @@ consistent_exact s =
             sources_length = lists.0;
             cores_length = lists.1;
             configured_source = λ i h. (sources i h).configured;
-            request-range = λ i h. (sources i h).request;
-            idle-source = λ i h. (sources i h).idle;
+            request_range = λ i h. (sources i h).request;
+            idle_source = λ i h. (sources i h).idle;
             configured_core = λ k h. (cores k h).configured;
             unfilled_box = λ k h. (cores k h).empty;
             spare_source = λ i a b. spares.0 i b a;
@@ -150,7 +150,7 @@ consistent_exact s =
                   record { some_source = c.some_source; n_le = c.n_le; some_core = c.some_core; m_le = c.m_le },
                   (c.sources_length, c.cores_length),
                 ),
-                λ i h. record { configured = c.configured_source i h; request = c.request-range i h; idle = c.idle-source i h },
+                λ i h. record { configured = c.configured_source i h; request = c.request_range i h; idle = c.idle_source i h },
               ),
               λ k h. record { configured = c.configured_core k h; empty = c.unfilled_box k h },
             ),
@@ -166,8 +166,8 @@ quiet_exact : (s : Controller) → 1 ≤ s.m → Exact (quiet s) (Quiet s)
 unfolding quiet
 quiet_exact s some =
     Iff.trans (candidates_exact s some and covered_exact s some) (
-      λ (f, g). record { candidates_settled_lem = λ i k a b c. f i a c k b; covered-settled = λ j k a b e. g j a e k b },
-      λ q. (λ i a c k b. q.candidates_settled_lem i k a b c, λ j a e k b. q.covered-settled j k a b e),
+      λ (f, g). record { candidates_settled_lem = λ i k a b c. f i a c k b; covered_settled_lem = λ j k a b e. g j a e k b },
+      λ q. (λ i a c k b. q.candidates_settled_lem i k a b c, λ j a e k b. q.covered_settled_lem j k a b e),
     )
 
 pub frugal_exact : (s : Controller) → Exact (frugal s) (Frugal s)

@@ -50,7 +50,7 @@ module _ (s : Controller) where
 
   sources_out : Consistent s → SourcesSound s.sources s.n (top_priority s.n)
   sources_out c = (
-    λ i h. record { configured = c.configured_source i h; request = c.request-range i h; idle = c.idle-source i h },
+    λ i h. record { configured = c.configured_source i h; request = c.request_range i h; idle = c.idle_source i h },
     λ i h g. c.spare_source i g h,
   )
 
@@ -65,8 +65,8 @@ module _ (s : Controller) where
           sources_length = lengths.0;
           cores_length = lengths.1;
           configured_source = λ i h. (sources i h).configured;
-          request-range = λ i h. (sources i h).request;
-          idle-source = λ i h. (sources i h).idle;
+          request_range = λ i h. (sources i h).request;
+          idle_source = λ i h. (sources i h).idle;
           configured_core = λ k h. (cores k h).fits.configured;
           unfilled_box = λ k h. (cores k h).fits.empty;
           spare_source = λ i h g. spare-sources i g h;

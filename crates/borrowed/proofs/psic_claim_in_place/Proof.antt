@@ -49,7 +49,7 @@ use Rattle.model.specs.contracts.Taken as Ta
 use Rattle.model.proofs.Taken.TheLaws as Ta'
 use Rattle.model.specs.contracts.Claimed as Cl
 use Rattle.model.proofs.Claimed.TheLaws as Cl'
-use Rattle.borrowed.proofs.Locals.{local, field-of, fills, lands-in}
+use Rattle.borrowed.proofs.Locals.{local, field_of_lem, fills, lands_in}
 use Rattle.borrowed.specs.contracts.take as take
 use Rattle.borrowed.proofs.take.Symbol as take-def
 use Rattle.borrowed.proofs.take.Symbol.{name as #borrowed·take}
@@ -166,15 +166,15 @@ module _
         split ! $ move ! (1 ∷ []) $ use1 𝓛 (raw (fact 𝓤 (r ≡ taken_from h))) (taken_of 𝓛 at_mem run h r) $
         heard ! (r ≡ taken_from h) (λ e. split ! $ drop ! $
         peeks ! Ta.the_row (Is Ta.the_row) (shows 𝓛 Ta.the_row) r (v ∷ []) (λ is.
-        lands-in ! 7 refl ((LL.lawful Ta.the_type Ta'.the_laws 𝓛).typed r _ is).0 $
+        lands_in ! 7 refl ((LL.lawful Ta.the_type Ta'.the_laws 𝓛).typed r _ is).0 $
         rewrite ! 7 (λ (w : Val). ‵ (fat full_share Ta'.mir l₂ 0 w)) (ap only (LL.tells Ta.the_type Ta'.the_laws r (v ∷ []) is)) refl $
         drop ! $
         -- [the record's cell; the open borrow; obs; auth; _3; …; _2; …; _1; …; room for _0; …]
-        assigns ! (of_opd ! (field-of ! 6 refl (sub ! 2 refl (whole !)))) (from ! (hop ! (look ! 8 refl) (stop !)))
+        assigns ! (of_opd ! (field_of_lem ! 6 refl (sub ! 2 refl (whole !)))) (from ! (hop ! (look ! 8 refl) (stop !)))
         (store_raw ! 0 refl ((LL.lawful Co.the_type Co'.the_laws 𝓛).typed r.core _ (core_is r _ is)).0) $
         fills ! 10 refl
-        (agg ! (and_then ! (field-of ! 6 refl (sub ! 0 refl (whole !)))
-        (and_then ! (field-of ! 6 refl (sub ! 1 refl (whole !))) (no_more !))))
+        (agg ! (and_then ! (field_of_lem ! 6 refl (sub ! 0 refl (whole !)))
+        (and_then ! (field_of_lem ! 6 refl (sub ! 1 refl (whole !))) (no_more !))))
         ((LL.lawful Cl.the_type Cl'.the_laws 𝓛).typed (claimed_as r) _ (claimed-is r _ is)).0 $
         owned ! Co.the_row (Is Co.the_row) (LL.makes Co.the_type Co'.the_plain 𝓛) r.core (cores r.core) (core_is r _ is) $
         move ! (1 ∷ 0 ∷ []) $ closes ! tt Co.the_row r.core (cores r.core) b o $

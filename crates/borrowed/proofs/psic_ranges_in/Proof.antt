@@ -37,7 +37,7 @@ use Rattle.model.specs.declared.Ranged.{Ranged}
 use Rattle.model.specs.Records.{ranged}
 use Rattle.borrowed.specs.declared.Sought.{Sought}
 use Rattle.borrowed.specs.Keys.{SoughtIn}
-use Rattle.borrowed.proofs.Locals.{local, field-of, fills, lands-in}
+use Rattle.borrowed.proofs.Locals.{local, field_of_lem, fills, lands_in}
 use Rattle.borrowed.proofs.Seeking.{Seek, lv, Own, to_seek, asks_seek, gives_seek, seek_said, goes_seek}
 use Rattle.model.specs.contracts.Source as So
 use Rattle.model.specs.contracts.Ranged as Ra
@@ -111,12 +111,12 @@ module _
         heard ! (SoughtIn s.now r) (λ e. split ! $ move ! (1 ∷ []) $
         -- [what the answer owns; the token; what the list owns; _2; …; _1; …; room for _0; …]
         peeks ! Sg.the_row (Is Sg.the_row) (shows 𝓛 Sg.the_row) r (u ∷ []) (λ is.
-        lands-in ! 3 refl ((LL.lawful Sg.the_type Sg'.the_laws 𝓛).typed r _ is).0 $
+        lands_in ! 3 refl ((LL.lawful Sg.the_type Sg'.the_laws 𝓛).typed r _ is).0 $
         rewrite ! 3 (λ (w : Val). ‵ (fat full_share Sg'.mir l₂ 0 w)) (ap only (LL.tells Sg.the_type Sg'.the_laws r (u ∷ []) is)) refl $
         drop ! $
         fills ! 6 refl
-        (agg ! (and_then ! (field-of ! 2 refl (sub ! 0 refl (whole !)))
-        (and_then ! (field-of ! 2 refl (sub ! 2 refl (whole !))) (no_more !))))
+        (agg ! (and_then ! (field_of_lem ! 2 refl (sub ! 0 refl (whole !)))
+        (and_then ! (field_of_lem ! 2 refl (sub ! 2 refl (whole !))) (no_more !))))
         ((LL.lawful Ra.the_type Ra'.the_laws 𝓛).typed (part r) _ (part-is r _ is)).0 $
         returns ! (look ! 6 refl) $ forget ! 2 refl $ forget ! 4 refl $ forget ! 6 refl $
         move ! (6 ∷ 7 ∷ []) $ free1 ! $ move ! (4 ∷ 5 ∷ []) $ free1 ! $ move ! (2 ∷ 3 ∷ []) $ free1 ! $ free0 ! $

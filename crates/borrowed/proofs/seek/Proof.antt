@@ -56,7 +56,7 @@ use Rattle.model.specs.Records.{max_sources}
 use Rattle.lists.proofs.Bools.{Flag, on, off, flag}
 use Rattle.borrowed.specs.declared.Extent.{Extent}
 use Rattle.borrowed.specs.Keys.{extent_of, read_of}
-use Rattle.borrowed.proofs.Locals.{local, field-of, fills, lands-in}
+use Rattle.borrowed.proofs.Locals.{local, field_of_lem, fills, lands_in}
 use Rattle.borrowed.proofs.Filling.{Copied, Further, further_wf, zeros, zeros_are, none_copied}
 use Rattle.model.specs.contracts.Source as So
 use Rattle.model.proofs.Source.TheLaws as So'
@@ -143,7 +143,7 @@ module _
       alloc1 ! (λ l₁₀. alloc1 ! (λ l₁₁. alloc1 ! (λ l₁₂. alloc1 ! (λ l₁₃. alloc1 ! (λ l₁₄. alloc0 ! $ params1 ! $
       pass1 ! (init ! 26 refl ((shr_slice_Lawful 𝓛 (named 0) κ So.the_row).typed s _ p).0) $ pass0 ! $
       -- len, and what it says by `extent_of`
-      fills ! 24 refl (of_opd ! (field-of ! 26 refl (sub ! 1 refl (whole !)))) (tt, record { fits = p.0.1.0 }) $
+      fills ! 24 refl (of_opd ! (field_of_lem ! 26 refl (sub ! 1 refl (whole !)))) (tt, record { fits = p.0.1.0 }) $
       owned ! usize (Is usize) (uint_Makes 𝓛 w64) len (vint w64 len ∷ []) (refl, p.0.1.0) $
       use1 𝓛 (asks-extent 𝓛 at_mem run len) (goes-extent 𝓛 at_mem run len) $
       calls_at ! (fm_of 𝓤 H 𝓛.laws 𝓣) (ExtentOf 𝓛 at_mem run) known.extents-of (to-extent 𝓛 at_mem run len)
@@ -152,7 +152,7 @@ module _
       split ! $ move ! (1 ∷ []) $ use1 𝓛 (raw (fact 𝓤 (x ≡ extent_of len))) (extent-said 𝓛 at_mem run len x) $
       heard ! (x ≡ extent_of len) (λ e. split ! $ drop ! $
       peeks ! Ex.the_row (Is Ex.the_row) (shows 𝓛 Ex.the_row) x (u ∷ []) (λ is.
-      lands-in ! 23 refl ((LL.lawful Ex.the_type Ex'.the_laws 𝓛).typed x _ is).0 $ drop ! $
+      lands_in ! 23 refl ((LL.lawful Ex.the_type Ex'.the_laws 𝓛).typed x _ is).0 $ drop ! $
       rewrite ! 22 (λ (w : Val). ‵ (fat full_share Ex'.mir l₃ 0 w))
       (ap only (LL.tells Ex.the_type Ex'.the_laws x (u ∷ []) is) ∙ ap (λ (y : Extent). only (extents y)) e) refl $
       -- the keys, written whole and then taken apart into their elements

@@ -1,5 +1,5 @@
 -- `borrowed::take` meets its contract: the two tests say which case of the claim holds. Assumes nothing.
-use Rattle.borrowed.proofs.Claims.{taken_empty, taken_bad, taken-good}
+use Rattle.borrowed.proofs.Claims.{taken_empty, taken_bad, taken_good}
 use borrow.Author.Rules.{rules}
 use Rattle.borrowed.proofs.take.Statement.{statement}
 use Rattle.borrowed.proofs.take.Tie as tie
@@ -34,7 +34,7 @@ outcome-requires-3 c κs = search rules
 
 returns-3 : tie.Need-returns-3
 returns-3 c =
-    taken-good
+    taken_good
     c.before.before.before.before.before.before.before.args.c
     c.before.before.before.if1.false
     c.before.before.claimable.ensures

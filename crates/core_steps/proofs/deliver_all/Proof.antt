@@ -9,7 +9,7 @@ use Rattle.layout.specs.Bytes.{source_from, core_from, state_from}
 use Rattle.in_place.specs.Held.{source_place, core_place}
 use Rattle.in_place.proofs.Stored.{held_length, read_source, read_core}
 use Rattle.core_steps.proofs.Deliveries.{DeliveredTo, delivered_none, turn_fits, turn_rests, turn_source, turn_core, turn_names}
-use Rattle.core_steps.proofs.Deliveries.{delivered-more, delivered_rest, delivered_all}
+use Rattle.core_steps.proofs.Deliveries.{delivered_more, delivered_rest, delivered_all}
 use Rattle.core_steps.proofs.deliver_all.Statement.{statement}
 use Rattle.core_steps.proofs.deliver_all.Tie as tie
 
@@ -155,7 +155,7 @@ loop-again c =
     let placed = read.before.before.before.before in
     let else = found read in
     let at = else.before in
-    delivered-more (inv at) (top at) (low at) (above else) (core-found read) (source-found read.before.before)
+    delivered_more (inv at) (top at) (low at) (above else) (core-found read) (source-found read.before.before)
     (rw (placed.before.source_of.ensures, placed.core-of.ensures) at done.deliver.ensures)
     (omega (arith, (turn at).loop-test.taken, (start at).pre.2))
 

@@ -10,8 +10,8 @@ use Rattle.model.specs.Commands.{names_core}
 use Rattle.layout.specs.Bytes.{state_size, state_from}
 use Rattle.in_place.proofs.Numbering.{sizes_read}
 use Rattle.in_place.proofs.Stored.{held_length}
-use Rattle.core_steps.proofs.Cores.{Judged, named_by, core_refused, core_in, judged, refused_later, soiled_by, sizes_stay, set-leaves}
-use Rattle.core_steps.proofs.Cores.{claim-leaves}
+use Rattle.core_steps.proofs.Cores.{Judged, named_by, core_refused, core_in, judged, refused_later, soiled_by, sizes_stay, set_leaves}
+use Rattle.core_steps.proofs.Cores.{claim_leaves}
 use borrow.Author.Rules.{rules}
 use Rattle.core_steps.proofs.on_core.Statement.{statement}
 use Rattle.core_steps.proofs.on_core.Tie as tie
@@ -157,7 +157,7 @@ returns-3 c =
     let is_set = made.before.before.before.before.a.given.1 in
     let accepted = accepted-set stored in
     let judged = accepted.before in
-    set-leaves (start (known judged)).requires (found judged) accepted.if2.left made.core-with.result stored.put-core.ensures
+    set_leaves (start (known judged)).requires (found judged) accepted.if2.left made.core-with.result stored.put-core.ensures
     is_set made.core-with.ensures settled.settle.ensures c.answered3.ensures
 
 same-length-4 : tie.Need-same-length-4
@@ -170,7 +170,7 @@ returns-4 c =
     let is-claim = made.before.before.before.enum_told.given.1 in
     let accepted = accepted-claim stored in
     let judged = accepted.before in
-    claim-leaves (start (known judged)).requires (found judged) accepted.if2.left made.claimed-core.result stored.put-core2.ensures
+    claim_leaves (start (known judged)).requires (found judged) accepted.if2.left made.claimed-core.result stored.put-core2.ensures
     is-claim made.claimed-core.ensures c.answered4.ensures
 
 pub on-core-spec : {M : Type 1} → statement M

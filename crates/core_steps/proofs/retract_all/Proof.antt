@@ -5,7 +5,7 @@ use mathlib.Core.Logic.{⊎_elim}
 use native.Mathlib.Omega.{arith}
 use Rattle.layout.specs.Bytes.{state_from}
 use Rattle.in_place.proofs.Stored.{held_length, read_core}
-use Rattle.core_steps.proofs.Retracted.{Emptying, emptying_none, emptying_by, core_inside, box_names, emptying-filled}
+use Rattle.core_steps.proofs.Retracted.{Emptying, emptying_none, emptying_by, core_inside, box_names, emptying_filled}
 use Rattle.core_steps.proofs.Retracted.{emptying_empty, emptying_all}
 use Rattle.core_steps.proofs.retract_all.Statement.{statement}
 use Rattle.core_steps.proofs.retract_all.Tie as tie
@@ -54,7 +54,7 @@ loop-again c =
     let inside = core_inside e (below turn) in
     let read = c.before.core_at.ensures ∙ read_core e.held _ inside in
     ⊎_elim
-    (λ w. emptying_by (emptying-filled e (below turn) read w.0.taken w.4.ensures) w.7 w.8 w.9 w.10)
+    (λ w. emptying_by (emptying_filled e (below turn) read w.0.taken w.4.ensures) w.7 w.8 w.9 w.10)
     (λ w. emptying_by (emptying_empty e (below turn) read w.0.left) w.1 w.2 w.3 w.4)
     c.if1.branch
 

@@ -1,5 +1,5 @@
 -- `core_steps::settle` meets its contract: the retractions, then the deliveries. Assumes nothing.
-use Rattle.core_steps.proofs.Settled.{settled-by}
+use Rattle.core_steps.proofs.Settled.{settled_by}
 use borrow.Author.Rules.{rules}
 use Rattle.core_steps.proofs.settle.Statement.{statement}
 use Rattle.core_steps.proofs.settle.Tie as tie
@@ -20,7 +20,7 @@ returns : tie.Need-returns
 returns c =
     let delivered = c.before.before in
     let retracted = delivered.before.before.before.before.before.before in
-    settled-by retracted.retract-all.ensures delivered.deliver-all.ensures
+    settled_by retracted.retract-all.ensures delivered.deliver-all.ensures
 
 pub settle-spec : {M : Type 1} → statement M
 settle-spec =

@@ -4,7 +4,7 @@ use mathlib.Core.Path.{◌≡◌, refl}
 use mathlib.Core.Bool.{true}
 use Rattle.lists.proofs.Bools.{failing, passing}
 use Rattle.layout.specs.Bytes.{is_state}
-use Rattle.exports.proofs.Calls.{bad_number, bad_bytes, execute-went}
+use Rattle.exports.proofs.Calls.{bad_number, bad_bytes, execute_went}
 use borrow.Author.Rules.{rules}
 use Rattle.exports.proofs.psic_execute.Statement.{statement}
 use Rattle.exports.proofs.psic_execute.Tie as tie
@@ -63,7 +63,7 @@ returns-3 c =
     let called = known.before.before in
     let tested = called.before in
     let a = tested.before.before.before.before.args in
-    execute-went a.number a.at a.priority a.state.now called.command.result (readable tested) called.command.ensures
+    execute_went a.number a.at a.priority a.state.now called.command.result (readable tested) called.command.ensures
     known.c.given.1 stepped.step.ensures c.packed.ensures
 
 pub psic-execute-spec : {M : Type 1} → statement M

@@ -10,7 +10,7 @@ use mathlib.Core.Logic.{⊎_elim}
 use Rattle.lists.proofs.Bools.{failing, passing}
 use Rattle.layout.specs.Bytes.{is_state, state_from, one_command}
 use Rattle.layout.proofs.Answers.{read_command, controller, same_bytes_lem}
-use Rattle.layout.proofs.Fives.{fives-read}
+use Rattle.layout.proofs.Fives.{fives_read}
 use Rattle.layout.proofs.Lists.{not_whole, no_room, RunTo, run_none, run_more, run_end, run_stop}
 use Rattle.steps.specs.Going.{Going}
 use Rattle.layout.proofs.RoundTrip.{state_size_lem}
@@ -122,7 +122,7 @@ loop-again c =
     let list = (start (tested turn.before)).args.list.now in
     let l = turn.before.loop in
     let went = stepped.step.ensures in
-    let read = fives-read read_command list l.i called.before.before.word_at.ensures called.before.word-at2.ensures
+    let read = fives_read read_command list l.i called.before.before.word_at.ensures called.before.word-at2.ensures
     (ap one_command (sym called.command.ensures ∙ known.read.given.1)) in (
       run_more l.invariant.0 turn.loop-test.true read went.state_is put.put-answer.ensures (same_bytes_lem went.says),
       went.going,
@@ -146,7 +146,7 @@ returns-4 c =
     (⊎_elim (λ w. run_end l.invariant.0 w.left)
     (λ w.
     run_stop l.invariant.0 w.0.taken
-    (fives-read read_command a.list.now l.i w.2.ensures w.3.ensures (ap one_command (sym w.4.ensures ∙ w.6.given.1))))
+    (fives_read read_command a.list.now l.i w.2.ensures w.3.ensures (ap one_command (sym w.4.ensures ∙ w.6.given.1))))
     c.loop-test.branch)
     l.invariant.1.whole
 

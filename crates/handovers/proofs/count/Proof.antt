@@ -1,6 +1,6 @@
 -- `handovers::count` meets its contract: each test decides the one that `counted` makes. Assumes nothing.
 use borrow.Author.Rules.{rules}
-use Rattle.handovers.proofs.Counted.{none_before, same_core, raised-cell, full_cell}
+use Rattle.handovers.proofs.Counted.{none_before, same_core, raised_cell, full_cell}
 use Rattle.handovers.proofs.count.Statement.{statement}
 use Rattle.handovers.proofs.count.Tie as tie
 
@@ -49,7 +49,7 @@ index-2-t c = search rules
 returns-3 : tie.Need-returns-3
 returns-3 c =
     let two = c.before.before in
-    raised-cell _ _ _ two.before.if1.false two.if2.false c.if3.true
+    raised_cell _ _ _ two.before.if1.false two.if2.false c.if3.true
 
 returns-4 : tie.Need-returns-4
 returns-4 c =

@@ -2,7 +2,7 @@
 use Prim.Native.Nat.{◌-◌, ◌≤◌}
 use mathlib.Core.Path.{refl}
 use native.Mathlib.Omega.{arith}
-use Rattle.lists.proofs.Filling.{filled_none, filled_more, filled-tabulated}
+use Rattle.lists.proofs.Filling.{filled_none, filled_more, filled_tabulated}
 use Rattle.model.specs.Records.{max_cores}
 use Rattle.handovers.proofs.Table.{Row, Rows, rows_all}
 use Rattle.handovers.proofs.table_in.Statement.{statement}
@@ -69,7 +69,7 @@ loop-again : tie.Need-loop-preserved invariant-loop2 decreases-loop2 invariant-l
 loop-again c =
     let row = c.before.loop2 in (
       filled_more _ _ _ c.before.before.before.loop.invariant.0 (omega arith) row.row
-          (filled-tabulated 0 _ row.invariant.0 c.loop2-test.false),
+          (filled_tabulated 0 _ row.invariant.0 c.loop2-test.false),
       omega arith,
     )
 

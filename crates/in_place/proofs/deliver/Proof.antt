@@ -1,5 +1,5 @@
 -- `in_place::deliver` meets its contract: the stores are those of the delivery, one after the other. Assumes nothing.
-use Rattle.in_place.proofs.Stored.{held-delivered}
+use Rattle.in_place.proofs.Stored.{held_delivered}
 use borrow.Author.Rules.{rules}
 use Rattle.in_place.proofs.deliver.Statement.{statement}
 use Rattle.in_place.proofs.deliver.Tie as tie
@@ -37,7 +37,7 @@ returns c =
     let back = marked.before.before.before.before.before in
     let start = back.before.before.before.before in
     λ s h at_i at-k.
-    held-delivered h start.requires.2 at-k back.put_back.ensures start.requires.1 at_i marked.with-delivered.ensures
+    held_delivered h start.requires.2 at-k back.put_back.ensures start.requires.1 at_i marked.with-delivered.ensures
     written.put-source.ensures.0 written.put-source.ensures.1 made.filled-with.ensures boxed.put-core.ensures.0
     boxed.put-core.ensures.1
 

@@ -4,7 +4,7 @@ use native.Mathlib.Omega.{arith}
 use borrow.Author.Rules.{rules}
 use Rattle.model.specs.Records.{max_sources, max_cores}
 use Rattle.lists.proofs.Filling.{filling_begin}
-use Rattle.in_place.proofs.Numbering.{sizes_read, Keys, Ranks, key_more, rank-more, numbered-all}
+use Rattle.in_place.proofs.Numbering.{sizes_read, Keys, Ranks, key_more, rank_more, numbered_all}
 use Rattle.in_place.proofs.number_all.Statement.{statement}
 use Rattle.in_place.proofs.number_all.Tie as tie
 
@@ -97,7 +97,7 @@ loop2-again : tie.Need-loop2-preserved invariant-loop decreases-loop invariant-l
 loop2-again c =
     let turn = c.before.before in
     let b = turn.before.before.before.before.before.before.before.args.state.now in (
-      rank-more b turn.before.loop2.invariant.0 (source_in turn) c.before.source-at.ensures c.rank-at.ensures,
+      rank_more b turn.before.loop2.invariant.0 (source_in turn) c.before.source-at.ensures c.rank-at.ensures,
       omega (arith, turn.loop2-test.true),
     )
 
@@ -106,7 +106,7 @@ returns c =
     let cores = c.before.before in
     let read = cores.before.before in
     let b = read.before.before.before.args.state.now in
-    numbered-all b cores.before.loop.invariant.0 (omega (arith, cores.loop-test.false, read.word-at2.ensures, (sizes_read b).1))
+    numbered_all b cores.before.loop.invariant.0 (omega (arith, cores.loop-test.false, read.word-at2.ensures, (sizes_read b).1))
     c.before.loop2.invariant.0 (omega (arith, c.loop2-test.false, read.before.word_at.ensures, (sizes_read b).0))
 
 pub number-all-spec : {M : Type 1} → statement M

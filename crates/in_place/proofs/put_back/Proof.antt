@@ -2,7 +2,7 @@
 use Prim.Native.Nat.{◌≤◌}
 use native.Mathlib.Omega.{arith}
 use Rattle.model.specs.Records.{max_sources}
-use Rattle.in_place.proofs.Stored.{back_empty, back-filled}
+use Rattle.in_place.proofs.Stored.{back_empty, back_filled}
 use borrow.Author.Rules.{rules}
 use Rattle.in_place.proofs.put_back.Statement.{statement}
 use Rattle.in_place.proofs.put_back.Tie as tie
@@ -38,7 +38,7 @@ returns c =
     let then = read.before.before.before in
     let start = then.before.before in
     λ s keys h.
-    back-filled h start.args.c.message start.requires.1 then.if1.true read.source-at.ensures made.with-delivered.ensures
+    back_filled h start.args.c.message start.requires.1 then.if1.true read.source-at.ensures made.with-delivered.ensures
     stored.put-source.ensures.0 stored.put-source.ensures.1
 
 returns-2 : tie.Need-returns-2

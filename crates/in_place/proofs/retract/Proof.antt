@@ -1,5 +1,5 @@
 -- `in_place::retract` meets its contract: the request is put back, and the box emptied. Assumes nothing.
-use Rattle.in_place.proofs.Stored.{held-retracted}
+use Rattle.in_place.proofs.Stored.{held_retracted}
 use borrow.Author.Rules.{rules}
 use Rattle.in_place.proofs.retract.Statement.{statement}
 use Rattle.in_place.proofs.retract.Tie as tie
@@ -23,7 +23,7 @@ returns c =
     let back = made.before.before.before.before.before in
     let start = back.before.before.before.before in
     λ s h at-k.
-    held-retracted h start.requires.1 at-k back.put_back.ensures made.emptied.ensures boxed.put-core.ensures.0
+    held_retracted h start.requires.1 at-k back.put_back.ensures made.emptied.ensures boxed.put-core.ensures.0
     boxed.put-core.ensures.1
 
 pub retract-spec : {M : Type 1} → statement M

@@ -1,7 +1,7 @@
 -- `recording_calls::psic_replay` meets its contract: its tests are `fits_replay`. Assumes nothing.
 use native.Mathlib.Omega.{arith}
 use borrow.Author.Rules.{rules}
-use Rattle.recording_calls.proofs.Answers.{fits, no_state, no_answers, replay-unfit}
+use Rattle.recording_calls.proofs.Answers.{fits, no_state, no_answers, replay_unfit}
 use Rattle.recording_calls.proofs.psic_replay.Statement.{statement}
 use Rattle.recording_calls.proofs.psic_replay.Tie as tie
 
@@ -11,7 +11,7 @@ no-room-requires c κs = search rules
 returns : tie.Need-returns
 returns c =
     let a = c.before.before.before.before.before.args in
-    replay-unfit a.text.now a.state.now a.answers.now a.n a.m c.no_room.result c.no_room.ensures
+    replay_unfit a.text.now a.state.now a.answers.now a.n a.m c.no_room.result c.no_room.ensures
     (no_state a.text.now a.state.now a.answers.now c.before.if1.true)
 
 room-requires : tie.Need-room-requires
@@ -26,7 +26,7 @@ no-room-requires-2 c κs = search rules
 returns-2 : tie.Need-returns-2
 returns-2 c =
     let a = c.before.before.before.before.before.before.before.args in
-    replay-unfit a.text.now a.state.now a.answers.now a.n a.m c.no-room2.result c.no-room2.ensures
+    replay_unfit a.text.now a.state.now a.answers.now a.n a.m c.no-room2.result c.no-room2.ensures
     (no_answers a.text.now a.state.now a.answers.now (omega arith))
 
 replay-all-requires : tie.Need-replay-all-requires

@@ -15,7 +15,7 @@ use Rattle.steps.specs.Going.{Going}
 use Rattle.recording_calls.specs.Remaining.{Remaining, remaining_with, left}
 use Rattle.recording_calls.proofs.Parts.{after, next_none, next_one}
 use Rattle.recording_calls.proofs.Reached.{due, due_less, commands_room, more_room}
-use Rattle.recording_calls.proofs.Answers.{ReplayedTo, replayed_none, replayed_past, replayed-more, replay-end, replay-refused, made}
+use Rattle.recording_calls.proofs.Answers.{ReplayedTo, replayed_none, replayed_past, replayed_more, replay_end, replay_refused, made}
 use Rattle.recording_calls.proofs.Answers.{encoded, state_fits, answers_fit}
 use Rattle.recording_calls.proofs.replay_all.Statement.{statement}
 use Rattle.recording_calls.proofs.replay_all.Tie as tie
@@ -86,7 +86,7 @@ returns c =
     let start = c.before.before.before.before.before.before.before in
     let a = start.args in
     let new = c.before.before.before.make in
-    replay-refused a.n a.m new.result new.ensures a.text.now a.state.now a.answers.now c.report-with.result
+    replay_refused a.n a.m new.result new.ensures a.text.now a.state.now a.answers.now c.report-with.result
     c.before.if1.true c.report-with.ensures start.requires
 
 put-state-requires : tie.Need-put-state-requires invariant-loop decreases-loop
@@ -172,7 +172,7 @@ loop-again-2 c =
     let went = put.before.before.before.before.step.ensures in
     let read = c.before.before.before.before.before.before.before.before.before.before.before in
     let within = read.before.before.before.before.next.ensures.within in (
-      replayed-more (turn read).before.loop.inv.0 within (one_read read) went.state_is put.put-answer.ensures
+      replayed_more (turn read).before.loop.inv.0 within (one_read read) went.state_is put.put-answer.ensures
           (same_bytes_lem went.says),
       went.going,
     )
@@ -203,7 +203,7 @@ returns-2 c =
     let none = ap (λ (b : Bool). left b t l.at l.r) c.before.loop-test.false in
     let new = (passed at).before.before.make in
     let sizes = made a.n a.m new.result new.ensures (passed at).if1.left in
-    replay-end a.n a.m t a.state.now a.answers.now (start at).pre sizes.0
+    replay_end a.n a.m t a.state.now a.answers.now (start at).pre sizes.0
     (replayed_past l.invariant.0 l.invariant.0.reached.within none) l.invariant.1.whole c.report-of.ensures
 
 pub replay-all-spec : {M : Type 1} → statement M

@@ -2,7 +2,7 @@
 use mathlib.Core.Path.{refl}
 use Rattle.lists.proofs.Bools.{failing, passing}
 use Rattle.routine_test.proofs.Encoded.{encoded}
-use Rattle.routine_calls.proofs.Calls.{call-unread, call-went}
+use Rattle.routine_calls.proofs.Calls.{call_unread, call_went}
 use borrow.Author.Rules.{rules}
 use Rattle.routine_calls.proofs.called.Statement.{statement}
 use Rattle.routine_calls.proofs.called.Tie as tie
@@ -23,7 +23,7 @@ returns : tie.Need-returns
 returns c =
     let tested = c.before in
     let start = tested.before.before.before.before.before.before.before in
-    call-unread start.args.state.now start.args.active.now start.args.holder.now start.args.c
+    call_unread start.args.state.now start.args.active.now start.args.holder.now start.args.c
     (failing tested.is-simulation.ensures c.if1.true)
 
 begin-requires : tie.Need-begin-requires
@@ -55,7 +55,7 @@ returns-2 c =
     let passed = did.before.before.before.before.before.before.before.before.before.before.before.before in
     let tested = passed.before in
     let start = tested.before.before.before.before.before.before.before in
-    call-went start.args.state.now start.args.active.now start.args.holder.now start.args.c
+    call_went start.args.state.now start.args.active.now start.args.holder.now start.args.c
     (passing tested.is-simulation.ensures passed.if1.false) did.step.ensures c.packed.ensures
 
 pub called-spec : {M : Type 1} → statement M

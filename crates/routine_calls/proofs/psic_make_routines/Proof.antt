@@ -2,7 +2,7 @@
 -- Assumes nothing.
 use mathlib.Core.Path.{refl}
 use native.Mathlib.Omega.{arith}
-use Rattle.routine_calls.proofs.Calls.{bad_state, bad_active, bad_holder, make_unfit, make_refused, make-done}
+use Rattle.routine_calls.proofs.Calls.{bad_state, bad_active, bad_holder, make_unfit, make_refused, make_done}
 use borrow.Author.Rules.{rules}
 use Rattle.routine_calls.proofs.psic_make_routines.Statement.{statement}
 use Rattle.routine_calls.proofs.psic_make_routines.Tie as tie
@@ -74,7 +74,7 @@ returns-5 c =
     let longs = holds.before in
     let sized = longs.before in
     let start = sized.before.before.before.before in
-    make-done start.args.state.now start.args.active.now start.args.holder.now start.args.n start.args.m
+    make_done start.args.state.now start.args.active.now start.args.holder.now start.args.n start.args.m
     sized.if1.false longs.if2.false holds.if3.false made.make.result made.make.ensures
     (omega (arith, passed.if4.false)) put.put-state.ensures first.clear.ensures cleared.clear2.ensures
 

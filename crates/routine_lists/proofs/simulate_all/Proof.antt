@@ -11,14 +11,14 @@ use mathlib.Core.Bool.{true}
 use Rattle.model.specs.Records.{max_sources, max_cores}
 use Rattle.layout.specs.Bytes.{is_state, room_for}
 use Rattle.layout.proofs.RoundTrip.{state_size_lem}
-use Rattle.layout.proofs.Fives.{fives-read}
+use Rattle.layout.proofs.Fives.{fives_read}
 use Rattle.layout.proofs.Lists.{RunTo, more_left, run_end, run_stop}
 use Rattle.routines.specs.Calls.{one_call, routines_in, is_simulation, table_size, table_in}
 use Rattle.routine_laws.proofs.Called.{counting, routines_machine}
 use Rattle.routine_steps.specs.Simulated.{Running}
 use Rattle.routine_test.proofs.Encoded.{encoded}
 use Rattle.routine_lists.proofs.Simulating.{read_call, fit, kept_by, raised_by, count_fits, simulate_none, simulate_more}
-use Rattle.routine_lists.proofs.Simulating.{simulate-done}
+use Rattle.routine_lists.proofs.Simulating.{simulate_done}
 use Rattle.routine_lists.proofs.simulate_all.Statement.{statement}
 use Rattle.routine_lists.proofs.simulate_all.Tie as tie
 
@@ -177,7 +177,7 @@ loop-again c =
     let p = (level did).word-at2 in
     let went = did.step.ensures in
     let named = sym (called did).call-of.ensures ∙ (known did).read.given.1 in
-    let read = fives-read read_call (start at).args.list.now at.loop.i to.ensures p.ensures (ap one_call named) in
+    let read = fives_read read_call (start at).args.list.now at.loop.i to.ensures p.ensures (ap one_call named) in
     let counted = ⊎_elim
     (λ w.
     raised_by at.loop.state at.loop.counts (number did) to.result p.result named went
@@ -223,11 +223,11 @@ returns c =
     let at = out.before in
     let a = (start at).args in
     let l = at.loop in
-    simulate-done a.state.now a.active.now a.holder.now a.list.now a.answers.now a.table.now (start at).requires
+    simulate_done a.state.now a.active.now a.holder.now a.list.now a.answers.now a.table.now (start at).requires
     (⊎_elim (λ w. run_end l.invariant.0 w.left)
     (λ w.
     run_stop l.invariant.0 w.0.taken
-    (fives-read read_call a.list.now l.i w.1.ensures w.3.ensures (ap one_call (sym w.4.ensures ∙ w.6.given.1))))
+    (fives_read read_call a.list.now l.i w.1.ensures w.3.ensures (ap one_call (sym w.4.ensures ∙ w.6.given.1))))
     out.loop-test.branch)
     l.invariant.1.whole put.put-table.ensures
 

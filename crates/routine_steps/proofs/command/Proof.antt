@@ -1,7 +1,7 @@
 -- `routine_steps::command` meets its contract: refused as the controller's command is, and accepted with the holders as they then are.
 -- Assumes nothing.
 use native.Mathlib.Omega.{arith}
-use Rattle.routine_steps.proofs.Done.{standing_ready, as-command, command-refused, command_source, command-done}
+use Rattle.routine_steps.proofs.Done.{standing_ready, as_command, command_refused, command_source, command_done}
 use borrow.Author.Rules.{rules}
 use Rattle.routine_steps.proofs.command.Statement.{statement}
 use Rattle.routine_steps.proofs.command.Tie as tie
@@ -26,8 +26,8 @@ returns c =
     let did = tested.before.before.before.before in
     let acted = did.before in
     let start = acted.before.before.before.before.before.before.before in
-    command-refused start.requires start.args.id start.args.a
-    (as-command start.requires start.args.id start.args.a acted.command-for.ensures did.on-source.ensures)
+    command_refused start.requires start.args.id start.args.a
+    (as_command start.requires start.args.id start.args.a acted.command-for.ensures did.on-source.ensures)
     (λ z. absurd (omega (arith, z, tested.if1.true))) c.answered.ensures
 
 cast-hold-after : tie.Need-overflow-cast-hold-after
@@ -40,7 +40,7 @@ sub-hold-after c =
     let acted = did.before in
     let start = acted.before.before.before.before.before.before.before in
     let source = command_source start.requires start.args.id start.args.a
-    (as-command start.requires start.args.id start.args.a acted.command-for.ensures did.on-source.ensures)
+    (as_command start.requires start.args.id start.args.a acted.command-for.ensures did.on-source.ensures)
     (omega (arith, tested.if1.false)) in
     omega (arith, source.0)
 
@@ -51,7 +51,7 @@ hold-after-requires c κs =
     let acted = did.before in
     let start = acted.before.before.before.before.before.before.before in
     (command_source start.requires start.args.id start.args.a
-    (as-command start.requires start.args.id start.args.a acted.command-for.ensures did.on-source.ensures)
+    (as_command start.requires start.args.id start.args.a acted.command-for.ensures did.on-source.ensures)
     (omega (arith, tested.if1.false))).1
 
 answered-requires-2 : tie.Need-answered-requires-2
@@ -70,8 +70,8 @@ returns-2 c =
     let did = tested.before.before.before.before in
     let acted = did.before in
     let start = acted.before.before.before.before.before.before.before in
-    command-done start.requires start.args.id start.args.a
-    (as-command start.requires start.args.id start.args.a acted.command-for.ensures did.on-source.ensures)
+    command_done start.requires start.args.id start.args.a
+    (as_command start.requires start.args.id start.args.a acted.command-for.ensures did.on-source.ensures)
     (omega (arith, tested.if1.false)) c.answered2.ensures held.hold-after.ensures
 
 pub command-spec : {M : Type 1} → statement M

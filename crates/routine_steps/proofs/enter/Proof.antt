@@ -3,7 +3,7 @@ use Prim.Native.Nat.{◌-◌, ◌<◌, ◌≤◌}
 use lib.ListN.{length}
 use mathlib.Core.Path.{refl}
 use native.Mathlib.Omega.{arith}
-use Rattle.routine_steps.proofs.Done.{standing_ready, enter-refused, enter_ready, enter_core, enter_source, enter_cycles, enter-done}
+use Rattle.routine_steps.proofs.Done.{standing_ready, enter_refused, enter_ready, enter_core, enter_source, enter_cycles, enter_done}
 use borrow.Author.Rules.{rules}
 use Rattle.routine_steps.proofs.enter.Statement.{statement}
 use Rattle.routine_steps.proofs.enter.Tie as tie
@@ -44,7 +44,7 @@ returns : tie.Need-returns
 returns c =
     let tested = c.before in
     let claim = tested.before.before.before.before in
-    enter-refused (start claim).requires (start claim).args.core claim.on-core.ensures
+    enter_refused (start claim).requires (start claim).args.core claim.on-core.ensures
     (λ z. absurd (omega (arith, z, tested.if1.true))) c.answered.ensures
 
 cast-k : tie.Need-overflow-cast-k
@@ -120,7 +120,7 @@ returns-2 c =
     let tested = back.before.before.before.before.before.before in
     let claim = did tested in
     let call = start claim in
-    enter-done call.pre call.args.core claim.on-core.ensures (omega (arith, tested.if1.false)) back.hand-back.ensures
+    enter_done call.pre call.args.core claim.on-core.ensures (omega (arith, tested.if1.false)) back.hand-back.ensures
     c.answered2.ensures refl refl
 
 pub enter_spec : {M : Type 1} → statement M

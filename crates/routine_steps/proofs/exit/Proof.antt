@@ -10,8 +10,8 @@ use Rattle.routines.specs.declared.RoutineCall.TheVariants.{Exit}
 use Rattle.routines.specs.Routines.{call_refusal}
 use Rattle.routines.specs.Calls.{routines_in}
 use Rattle.routine_steps.proofs.Numbers.{core_refused, idle_core}
-use Rattle.routine_steps.proofs.Done.{standing_ready, exit_named, exit_core, exit_accepted, exit-refused, exit_ready, exit_cycles}
-use Rattle.routine_steps.proofs.Done.{exit-done}
+use Rattle.routine_steps.proofs.Done.{standing_ready, exit_named, exit_core, exit_accepted, exit_refused, exit_ready, exit_cycles}
+use Rattle.routine_steps.proofs.Done.{exit_done}
 use borrow.Author.Rules.{rules}
 use Rattle.routine_steps.proofs.exit.Statement.{statement}
 use Rattle.routine_steps.proofs.exit.Tie as tie
@@ -63,7 +63,7 @@ returns c =
     let start = read.before.before.before.before.before in
     let core = start.args.core in
     let unnamed = exit_named start.requires core read.word_at.ensures asked.names-core.ensures (not-true _ tested.if1.true) in
-    exit-refused start.requires core 3 (core_refused _ start.requires.sound core unnamed) (λ z. absurd (omega (arith, z))) c.answered.ensures
+    exit_refused start.requires core 3 (core_refused _ start.requires.sound core unnamed) (λ z. absurd (omega (arith, z))) c.answered.ensures
 
 cast-k : tie.Need-overflow-cast-k
 cast-k c = search rules
@@ -88,7 +88,7 @@ returns-2 c =
     let at = idle.before.before.before in
     let call = start at in
     let core = call.args.core in
-    exit-refused call.pre core 8 (idle_core _ call.pre.sound core (named at) idle.if2.true) (λ z. absurd (omega (arith, z)))
+    exit_refused call.pre core 8 (idle_core _ call.pre.sound core (named at) idle.if2.true) (λ z. absurd (omega (arith, z)))
     c.answered2.ensures
 
 on-source-requires : tie.Need-on-source-requires
@@ -135,7 +135,7 @@ returns-3 c =
     let did = low.before.before.before.before.before.before in
     let else = accepted did in
     let call = start (known else) in
-    exit-done call.pre call.args.core (passes else) did.on-source.ensures low.on-core.ensures c.answered3.ensures refl
+    exit_done call.pre call.args.core (passes else) did.on-source.ensures low.on-core.ensures c.answered3.ensures refl
 
 pub exit-spec : {M : Type 1} → statement M
 exit-spec =

@@ -1,7 +1,7 @@
 -- `routine_steps::step` meets its contract: an unsound simulation refuses every call, and a sound one does as the three kinds of calls do.
 -- Assumes nothing.
 use borrow.Author.Tests.{not-true, not-false}
-use Rattle.routine_steps.proofs.Gone.{go_refused, stands, gone-on}
+use Rattle.routine_steps.proofs.Gone.{go_refused, stands, gone_on}
 use borrow.Author.Rules.{rules}
 use Rattle.routine_steps.proofs.step.Statement.{statement}
 use Rattle.routine_steps.proofs.step.Tie as tie
@@ -57,7 +57,7 @@ returns-2 c =
     let told = did.before.before.before.before.before.before.before in
     let tested = told.before.before in
     let start = tested.before.before.before.before in
-    gone-on start.requires start.args.c (not-false _ tested.if1.false) told.c.given.1 did.command.ensures
+    gone_on start.requires start.args.c (not-false _ tested.if1.false) told.c.given.1 did.command.ensures
 
 same-length-4 : tie.Need-same-length-4
 same-length-4 c = search rules
@@ -74,7 +74,7 @@ returns-3 c =
     let told = did.before.before.before.before.before.before.before in
     let tested = told.before.before in
     let start = tested.before.before.before.before in
-    gone-on start.requires start.args.c (not-false _ tested.if1.false) told.c2.given.1 did.enter.ensures
+    gone_on start.requires start.args.c (not-false _ tested.if1.false) told.c2.given.1 did.enter.ensures
 
 same-length-7 : tie.Need-same-length-7
 same-length-7 c = search rules
@@ -91,7 +91,7 @@ returns-4 c =
     let told = did.before.before.before.before.before.before.before in
     let tested = told.before.before in
     let start = tested.before.before.before.before in
-    gone-on start.requires start.args.c (not-false _ tested.if1.false) told.c3.given.1 did.exit.ensures
+    gone_on start.requires start.args.c (not-false _ tested.if1.false) told.c3.given.1 did.exit.ensures
 
 pub step_spec : {M : Type 1} → statement M
 step_spec =

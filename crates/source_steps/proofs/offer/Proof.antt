@@ -2,7 +2,7 @@
 use native.Mathlib.Omega.{arith}
 use borrow.Author.Rules.{rules}
 use Rattle.in_place.proofs.Stored.{held_length}
-use Rattle.source_steps.proofs.Offering.{core_fits, names_one, offer_none, offer_rests, offer-delivers}
+use Rattle.source_steps.proofs.Offering.{core_fits, names_one, offer_none, offer_rests, offer_delivers}
 use Rattle.source_steps.proofs.offer.Statement.{statement}
 use Rattle.source_steps.proofs.offer.Tie as tie
 
@@ -73,7 +73,7 @@ returns-3 c =
     let above = found.before in
     let asked = above.before in
     let lowest = asked.before.before in
-    offer-delivers lowest.before.before.before.before.before.requires lowest.lowest.ensures found.core-of.ensures
+    offer_delivers lowest.before.before.before.before.before.requires lowest.lowest.ensures found.core-of.ensures
     read.core_at.ensures asked.before.priority-of.ensures asked.current-of.ensures (omega (arith, above.if2.false))
     delivered.deliver.ensures c.answered3.ensures
 

@@ -10,7 +10,7 @@ use Rattle.model.specs.Records.{max_sources}
 use Rattle.model.specs.Commands.{names_source}
 use Rattle.layout.specs.Bytes.{state_size, state_from}
 use Rattle.in_place.proofs.Stored.{held_length}
-use Rattle.source_steps.proofs.Sourced.{cores_fit, named_by, bad-source, some_id, in_array}
+use Rattle.source_steps.proofs.Sourced.{cores_fit, named_by, bad_source, some_id, in_array}
 use Rattle.source_steps.proofs.Sourced.{Judged, judged, refused_later, dropped, offered, accepted}
 use Rattle.source_steps.proofs.on_source.Statement.{statement}
 use Rattle.source_steps.proofs.on_source.Tie as tie
@@ -63,7 +63,7 @@ returns c =
     let asked = c.before.before in
     let given = asked.before.before.before.before in
     let bad = not-true _ c.before.if1.true in
-    bad-source given.requires given.args.id given.args.a
+    bad_source given.requires given.args.id given.args.a
     (named_by given.requires given.args.id asked.before.word_at.ensures asked.names-source.ensures bad) c.answered.ensures
 
 cast-i : tie.Need-overflow-cast-i

@@ -7,7 +7,7 @@ use native.Mathlib.Omega.{arith}
 use Rattle.model.specs.Records.{max_cores, core_at}
 use Rattle.model.specs.WellFormed.{is_reset_core}
 use Rattle.lists.specs.Walks.{every}
-use Rattle.lists.proofs.Turns.{since_begin, since-turn, since_end}
+use Rattle.lists.proofs.Turns.{since_begin, since_turn, since_end}
 use Rattle.layout.specs.Bytes.{state_from}
 use Rattle.layout.proofs.InPlace.{core_read}
 use Rattle.well_formed.specs.Loops.{spare_core}
@@ -50,7 +50,7 @@ tested c =
 loop-again : tie.Need-loop-preserved invariant-loop decreases-loop
 loop-again c =
     let l = c.before.before.before.before.loop in
-    let (off, more) = since-turn _ _ _ l.invariant.1.1 (omega arith) (tested c.before) in
+    let (off, more) = since_turn _ _ _ l.invariant.1.1 (omega arith) (tested c.before) in
     (omega arith, (omega arith, ⊎_elim (λ w. w.1 ∙ off w.0.taken) (λ w. w.1 ∙ more w.0.left) c.if1.branch))
 
 returns : tie.Need-returns invariant-loop decreases-loop

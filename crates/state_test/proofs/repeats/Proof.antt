@@ -7,7 +7,7 @@ use mathlib.Core.Logic.{⊎_elim}
 use native.Mathlib.Omega.{arith}
 use borrow.Author.Tests.{eq-eqb, ne_eqb}
 use Rattle.lists.specs.Walks.{every}
-use Rattle.lists.proofs.Turns.{since_begin, since-turn, since_end}
+use Rattle.lists.proofs.Turns.{since_begin, since_turn, since_end}
 use Rattle.state_test.specs.OnBytes.{repeating}
 use Rattle.state_test.proofs.repeats.Statement.{statement}
 use Rattle.state_test.proofs.repeats.Tie as tie
@@ -39,7 +39,7 @@ loop-less c = omega arith
 loop-again : tie.Need-loop-preserved invariant-loop decreases-loop
 loop-again c =
     let l = c.before.before.before.before.loop in
-    let (off, more) = since-turn _ _ _ l.invariant.1.1 (omega arith) refl in (
+    let (off, more) = since_turn _ _ _ l.invariant.1.1 (omega arith) refl in (
       omega arith,
       (
         omega arith,

@@ -19,7 +19,7 @@ use Rattle.well_formed.specs.Loops.{cores_sound, sources_sound, both_sound}
 use Rattle.well_formed.proofs.Clauses.{sizes_exact}
 use Rattle.well_formed.proofs.Test.{consistent_exact}
 use Rattle.well_formed.proofs.Verdict.{survey_refused, cores_consistent}
-use Rattle.state_test.proofs.Read.{sizes_read, holds_read, passes_read, survey-read}
+use Rattle.state_test.proofs.Read.{sizes_read, holds_read, passes_read, survey_read}
 use Rattle.state_test.proofs.survey.Statement.{statement}
 use Rattle.state_test.proofs.survey.Tie as tie
 
@@ -117,7 +117,7 @@ returns-3 c =
     let cores = c.before.before.before in
     let one = cores.before.before in
     let read = one.before.before in
-    survey-read (bytes read) read.before.word_at.ensures read.word-at2.ensures (in_range one)
+    survey_read (bytes read) read.before.word_at.ensures read.word-at2.ensures (in_range one)
     cores.before.top-priority.ensures cores.survey-cores.ensures
     (sym (cores-is cores) ∙ not-false _ c.before.if2.false) c.survey-sources.ensures
 

@@ -19,8 +19,8 @@ use Rattle.well_formed.specs.Survey.{inconsistent_survey}
 use Rattle.well_formed.specs.Loops.{spare_core, backs, cores_to, cores_survey}
 use Rattle.well_formed.proofs.Cores.{CoreNames, CoreSound, spare_cores_exact, cores_refused, cores_passed}
 use Rattle.well_formed.proofs.Marks.{Boxes, boxes_begin}
-use Rattle.state_test.proofs.Read.{names_exact, names_read, backs_read, twice-read}
-use Rattle.state_test.proofs.Read.{filled-read, empty-read, shown_first, shown_read}
+use Rattle.state_test.proofs.Read.{names_exact, names_read, backs_read, twice_read}
+use Rattle.state_test.proofs.Read.{filled_read, empty_read, shown_first, shown_read}
 use Rattle.state_test.proofs.survey_cores.Statement.{statement}
 use Rattle.state_test.proofs.survey_cores.Tie as tie
 
@@ -172,7 +172,7 @@ returns-3 c =
     c.inconsistent3.ensures ∙
     refuted d
     (λ o.
-    twice-read (state (given d)) (number d) (read d) d.before.before.loop.invariant.1.0 low high o two.if3.true
+    twice_read (state (given d)) (number d) (read d) d.before.before.loop.invariant.1.0 low high o two.if3.true
     c.before.if4.true)
 
 array-write-seen : tie.Need-array-write-seen invariant-loop decreases-loop
@@ -216,9 +216,9 @@ boxes-again c =
     let b = d.before.before.loop.invariant.1.0 in
     ⊎_elim
     (λ w.
-    filled-read (state (given d)) (number d) (read d) b (names c.before) (sources-le d) w.0.taken w.2.left
+    filled_read (state (given d)) (number d) (read d) b (names c.before) (sources-le d) w.0.taken w.2.left
     (accepted (flag_exact _) (backing (record { before = c.before; if3 = w.0 }) w.3.ensures w.4.ensures) w.5.left) w.6)
-    (λ w. empty-read (state (given d)) (number d) (read d) b (names c.before) w.0.left w.1) c.if3.branch
+    (λ w. empty_read (state (given d)) (number d) (read d) b (names c.before) w.0.left w.1) c.if3.branch
 
 loop-again : tie.Need-loop-preserved invariant-loop decreases-loop
 loop-again c =

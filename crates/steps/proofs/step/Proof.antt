@@ -1,7 +1,7 @@
 -- `steps::step` meets its contract: an unsound state refuses every command, and a sound one does as the two kinds of commands do. Assumes
 -- nothing.
 use borrow.Author.Tests.{not-true, not-false}
-use Rattle.steps.proofs.Gone.{go_refused, ready, gone-on}
+use Rattle.steps.proofs.Gone.{go_refused, ready, gone_on}
 use borrow.Author.Rules.{rules}
 use Rattle.steps.proofs.step.Statement.{statement}
 use Rattle.steps.proofs.step.Tie as tie
@@ -42,7 +42,7 @@ returns-2 c =
     let kind = did.before.before.before.before.before in
     let sound = kind.before.before in
     let start = sound.before.before in
-    gone-on start.requires start.args.c (not-false _ sound.if1.false) kind.c.given.1 did.on-source.ensures
+    gone_on start.requires start.args.c (not-false _ sound.if1.false) kind.c.given.1 did.on-source.ensures
 
 same-length-2 : tie.Need-same-length-2
 same-length-2 c = search rules
@@ -53,7 +53,7 @@ returns-3 c =
     let kind = did.before.before.before.before.before in
     let sound = kind.before.before in
     let start = sound.before.before in
-    gone-on start.requires start.args.c (not-false _ sound.if1.false) kind.c2.given.1 did.on-core.ensures
+    gone_on start.requires start.args.c (not-false _ sound.if1.false) kind.c2.given.1 did.on-core.ensures
 
 pub step_spec : {M : Type 1} → statement M
 step_spec =

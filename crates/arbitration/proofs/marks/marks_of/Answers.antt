@@ -16,4 +16,4 @@ overflow_add-before c = omega (arith, marking_fits c.loop-i.invariant (omega ari
 pub loop-i-preserved : goal.loop-i-preserved
 loop-i-preserved c =
     let inv = c.loop-i.invariant in
-    elim c.if-keys-i-gt0.branch [ then-keys-i-gt0 w ↦ rw w.before-is (marking_on inv (omega arith) (omega (arith, w.if-keys-i-gt0.true))) | else-keys-i-gt0 w ↦ rw w.1 (marking_off inv (omega arith) (omega (arith, w.if-keys-i-gt0.false))) ]
+    elim c.if-keys-i-gt0.branch [ then-keys-i-gt0 w ↦ rw w.before-is (marking_on inv (omega arith) (omega (arith, w.if-keys-i-gt0.true))) | else-keys-i-gt0 w ↦ rw w.before-is (marking_off inv (omega arith) (omega (arith, w.if-keys-i-gt0.false))) ]

@@ -43,7 +43,7 @@ use Rattle.model.specs.declared.Source.{Source}
 use Rattle.model.specs.Records.{max_sources}
 use Rattle.borrowed.specs.declared.Extent.{Extent}
 use Rattle.borrowed.specs.Keys.{extent_of, read_of, SoughtByKeys}
-use Rattle.borrowed.proofs.Locals.{local, field-of, fills, lands-in}
+use Rattle.borrowed.proofs.Locals.{local, field_of_lem, fills, lands_in}
 use Rattle.borrowed.proofs.Filling.{Copied, read_inside, all_copied}
 use Rattle.model.specs.contracts.Source as So
 use Rattle.borrowed.specs.contracts.Sought as Sg
@@ -89,7 +89,7 @@ module _
   pub leaves : Turns 𝓛 at_mem run κ q s 𝓣 q' B f
   unfolding after_turn part_of
   leaves =
-      fills ! 18 refl (bin ! (local ! 20 refl) (field-of ! 23 refl (sub ! 1 refl (whole !))) tt) (tt, tt) $
+      fills ! 18 refl (bin ! (local ! 20 refl) (field_of_lem ! 23 refl (sub ! 1 refl (whole !))) tt) (tt, tt) $
       rewrite ! 18 (λ (t : Bool). ‵ (fat full_share ty_bool B.l₆ 0 (vbool t))) test refl $ leaves_loop ! (local ! 18 refl) $
       exec ! 𝓣.C 𝓣.Λ (En 𝓤 H B) mir.t-6 (at_ret (En 𝓤 H B) (Post 𝓛 at_mem run κ q s)) $
       move ! (1 ∷ 31 ∷ []) $ shuts_slice ! tt So.the_row q' s.now s.ref_ptr.0 s.ref_ptr.1 $
@@ -117,7 +117,7 @@ module _
       full_share ks vs B.l₄ 0 $ move ! (1 ∷ []) $ drop ! $ move ! (1 ∷ []) $ drop ! $ move ! (1 ∷ []) $
       -- [the answer; the keys; the list's token; _14; …]
       peeks ! Sg.the_row (Is Sg.the_row) (shows 𝓛 Sg.the_row) r (u ∷ []) (λ is.
-      lands-in ! 30 refl ((LL.lawful Sg.the_type Sg'.the_laws 𝓛).typed r _ is).0 $
+      lands_in ! 30 refl ((LL.lawful Sg.the_type Sg'.the_laws 𝓛).typed r _ is).0 $
       returns ! (look ! 30 refl) $ forget ! 1 refl $ forget ! 3 refl $ forget ! 19 refl $ forget ! 21 refl $
       forget ! 24 refl $ forget ! 26 refl $ forget ! 28 refl $ forget ! 30 refl $
       move ! (30 ∷ 31 ∷ []) $ free1 ! $ move ! (28 ∷ 29 ∷ []) $ free1 ! $ move ! (26 ∷ 27 ∷ []) $ free1 ! $

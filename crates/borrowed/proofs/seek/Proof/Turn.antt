@@ -39,7 +39,7 @@ use Rattle.model.specs.declared.Source.{Source}
 use Rattle.model.specs.Records.{no_source}
 use Rattle.model.specs.Arbitration.{rank as rank_of}
 use Rattle.borrowed.specs.Keys.{read_of}
-use Rattle.borrowed.proofs.Locals.{local, field-of, fills, lands-in}
+use Rattle.borrowed.proofs.Locals.{local, field_of_lem, fills, lands_in}
 use Rattle.borrowed.proofs.Filling.{Copied, Further, read_inside, one_more, nearer}
 use Rattle.model.specs.contracts.Source as So
 use Rattle.model.proofs.Source.TheLaws as So'
@@ -98,11 +98,11 @@ module _
   pub copies : Turns 𝓛 at_mem run κ q s 𝓣 q' B f
   unfolding after_turn
   copies =
-      fills ! 18 refl (bin ! (local ! 20 refl) (field-of ! 23 refl (sub ! 1 refl (whole !))) tt) (tt, tt) $
+      fills ! 18 refl (bin ! (local ! 20 refl) (field_of_lem ! 23 refl (sub ! 1 refl (whole !))) tt) (tt, tt) $
       rewrite ! 18 (λ (t : Bool). ‵ (fat full_share ty_bool B.l₆ 0 (vbool t))) test refl $ stays ! (local ! 18 refl) $
       -- list[i] is copied into _10
       fills ! 14 refl (bin ! (local ! 20 refl) (lit ! tt) (record { fits = by-10 })) (tt, record { fits = by-10 }) $
-      fills ! 12 refl (bin ! (field-of ! 27 refl (sub ! 0 refl (whole !))) (local ! 14 refl) tt) (tt, tt) $
+      fills ! 12 refl (bin ! (field_of_lem ! 27 refl (sub ! 0 refl (whole !))) (local ! 14 refl) tt) (tt, tt) $
       rewrite ! 12 (λ (p : ℕ). ‵ (fat full_share ty_ptr B.l₉ 0 (vptr b p))) (sym (place_is 10 o i)) refl $
       move ! (1 ∷ []) $
       elem_out ! So.the_row (Is So.the_row) (shows 𝓛 So.the_row) sources (LL.tells So.the_type So'.the_laws)
@@ -119,7 +119,7 @@ module _
       split ! $ move ! (1 ∷ []) $ use1 𝓛 (raw (fact 𝓤 (k ≡ rank_of r))) (rank-said 𝓛 at_mem run r k) $
       heard ! (k ≡ rank_of r) (λ e. split ! $ drop ! $
       peeks ! u32 (Is u32) (shows 𝓛 u32) k (w ∷ []) (λ is.
-      lands-in ! 17 refl ((uint_Lawful 𝓛 w32).typed k _ is).0 $
+      lands_in ! 17 refl ((uint_Lawful 𝓛 w32).typed k _ is).0 $
       -- [what the rank owns; the list's elements; the keys'; …]: it is stored at keys[i]
       fills ! 9 refl (bin ! (local ! 21 refl) (lit ! tt) (record { fits = by_4 })) (tt, record { fits = by_4 }) $
       fills ! 7 refl (addr ! (from ! (stop !))) (tt, tt) $
