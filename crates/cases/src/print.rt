@@ -272,5 +272,8 @@ pub fn making(rt: &impl Print, n: u16, m: u16, a: Answer) -> io::Result<()> {
 }
 
 pub fn start(rt: &impl Print) -> io::Result<()> {
-    text(rt, b"\nstart: 32 sources, 2 cores, every source unmasked with priority equal to its id\n")
+    text(
+        rt,
+        b"\nstart: 32 sources, 2 cores, every source unmasked with priority equal to its id\n",
+    )
 }
