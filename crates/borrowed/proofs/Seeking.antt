@@ -24,6 +24,7 @@ use Rattle.model.specs.declared.Source.{Source}
 use Rattle.borrowed.specs.declared.Sought.{Sought}
 use Rattle.borrowed.specs.Keys.{SoughtIn}
 use Rattle.model.specs.contracts.Source as So
+use Rattle.model.proofs.Source.TheLaws.{the_row_laws}
 use Rattle.borrowed.specs.contracts.Sought as Sg
 use Rattle.borrowed.specs.contracts.seek as seek
 
@@ -70,5 +71,5 @@ module _ {M : Type 1} {𝓤 : Ura M} (𝓛 : Logic 𝓤) (at_mem : Memory → SP
       goes_seek =
           qed 𝓛 ((‵ (flft κ q) ⊛ ‵ ftrue) ∷ ‵ (owns (ShrSlice (named 0) κ So.the_row ∷ []) (s, tt) (lv ∷ [], tt)) ∷ []) ∵
           move ! (1 ∷ []) $ fsplit ! $ move ! (1 ∷ []) $ drop ! $
-          use1 𝓛 (‵ Own ⊛ ‵ Own) ((shr_slice_copy 𝓛 (named 0) κ So.the_row).twice s (lv ∷ [])) $ split ! $
+          use1 𝓛 (‵ Own ⊛ ‵ Own) ((shr_slice_copy 𝓛 (named 0) κ So.the_row the_row_laws.shr_laws).twice s (lv ∷ [])) $ split ! $
           nothing ! $ move ! (1 ∷ 0 ∷ []) $ fjoin ! $ move ! (2 ∷ 0 ∷ []) $ use2 𝓛 asks_seek asked $ frame ! $ done !

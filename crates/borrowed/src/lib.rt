@@ -51,8 +51,7 @@ pub fn take(c: Core) -> Taken
 }
 
 // The same on a record that the host lends: it is taken apart, and written back also by a refusal, as it was.
-#[unsafe(no_mangle)]
-pub extern "C" fn psic_claim_in_place(c: &mut Core) -> Claimed
+pub fn psic_claim_in_place(c: &mut Core) -> Claimed
     ensures { (result ≡ claimed_as (taken_from c.old)) × (c.new ≡ (taken_from c.old).core) }
 {
     let t = take(*c);
@@ -142,8 +141,7 @@ fn seek(list: &[Source]) -> Sought
 }
 
 // Where the first highest candidate of a lent list stands.
-#[unsafe(no_mangle)]
-pub extern "C" fn psic_highest_in(list: &[Source]) -> Found
+pub fn psic_highest_in(list: &[Source]) -> Found
     ensures { result ≡ found_in list.now }
 {
     let s = seek(list);
@@ -154,8 +152,7 @@ pub extern "C" fn psic_highest_in(list: &[Source]) -> Found
 }
 
 // How many ranges of the comparator tree over a lent list that search looks into. Document 02, 3/14.
-#[unsafe(no_mangle)]
-pub extern "C" fn psic_ranges_in(list: &[Source]) -> Ranged
+pub fn psic_ranges_in(list: &[Source]) -> Ranged
     ensures { result ≡ ranges_in list.now }
 {
     let s = seek(list);

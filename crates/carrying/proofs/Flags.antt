@@ -1,7 +1,7 @@
 -- The test of what is carried. Assumes nothing.
 --   above_places, place_zero                             the numbers that name the first place
 --   separators_none, separators_more, separators_stop    the bytes of a word, one by one
---   all-passed                                           the last test decides where those before held
+--   all_passed                                           the last test decides where those before held
 --   wrong_size .. too_long                               what the test answers as soon as one part fails
 use Prim.Native.Nat.{ℕ, zero, suc, ◌+◌, ◌-◌, ◌<◌, ◌≤◌}
 use mathlib.Core.Path.{◌≡◌, refl, sym, ap, ◌∙◌}
@@ -13,7 +13,6 @@ use lib.ListN.{length, get_or, get_or-eq_default}
 use Rattle.layout.specs.Bytes.{word_at, is_flag_at}
 use Rattle.recording.specs.Words.{all, separator}
 use Rattle.recording.specs.Chunks.{most_kept}
-use Rattle.recording.specs.declared.Place.{Place}
 use Rattle.recording.specs.declared.Place.TheVariants.{Definition}
 use Rattle.recording.specs.Carrying.{places, place_of, last_place, ended_at, length_at, bytes_at, carried_size, reader_flags, is_carried}
 use Rattle.vcd_words.specs.Partial.{between}
@@ -73,10 +72,10 @@ module _ (b : List ℕ) where
   unfolding is_carried
   too_long h = simp (lt-leb _ _ h, and-false)
 
-  pub all-passed :
+  pub all_passed :
       (count : ℕ) (r : Bool) → length b ≡ carried_size → get_or b 0 0 ≤ last_place → reader_flags b ≡ true → is_flag_at b ended_at ≡ true →
       count ≡ word_at b length_at → count ≤ most_kept → r ≡ none_in (between b bytes_at (bytes_at + count)) → r ≡ is_carried b
   unfolding is_carried
-  all-passed count r size place flags mark ec short e =
+  all_passed count r size place flags mark ec short e =
       let same : bytes_at + count - bytes_at ≡ count = omega arith in
       e ∙ rw (eq-eqb _ _ size, le-leb _ _ place, flags, mark, ← ec, le-leb _ _ short, same)

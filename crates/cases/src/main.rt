@@ -5,6 +5,7 @@ mod print;
 mod script;
 
 use model::{Answer, Command, Controller, Decoded, SourceAction, SourceId};
+use std::io;
 
 // The table's start state, by the commands that set it up.
 fn start() -> Controller {
@@ -51,7 +52,7 @@ fn one_more(count: u16) -> u16 {
     if count < 65535 { count + 1 } else { count }
 }
 
-fn main() {
+fn main(rt: HostRuntime) -> io::Result<()> {
     let mut s = start();
     let mut i = 0;
     let mut marked = 0u16;
@@ -63,32 +64,32 @@ fn main() {
         let priority = row[3];
         match decoding::command(kind, at, priority) {
             Decoded::Known(c) => {
-                print::label(row[0]);
-                print::command(c);
+                print::label(&rt, row[0])?;
+                print::command(&rt, c)?;
                 let a = commands::execute(s, c);
-                print::answer(a);
+                print::answer(&rt, a)?;
                 if 0 < row[0] {
                     let wanted = as_wanted(a, row);
-                    print::verdict(wanted);
+                    print::verdict(&rt, wanted)?;
                     marked = one_more(marked);
                     if wanted {
                         good = one_more(good);
                     }
                 }
-                print::line_end();
+                print::line_end(&rt)?;
                 s = a.state;
             }
             Decoded::Unknown => {
                 if kind == script::START {
-                    print::start();
+                    print::start(&rt)?;
                     s = start();
                 }
                 if kind == script::MAKE {
-                    print::making(at, priority, commands::make(at, priority));
+                    print::making(&rt, at, priority, commands::make(at, priority))?;
                 }
             }
         }
         i += 1;
     }
-    print::count(good, marked);
+    print::count(&rt, good, marked)
 }

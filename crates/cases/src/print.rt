@@ -1,97 +1,97 @@
 // What a person reads: a command, its answer, and the state after it.
 use model::{Answer, CORES, Command, Controller, Core, CoreAction, Source, SourceAction};
+use std::io;
 
-fn text(bytes: &[u8]) {
-    io::write_all(1, bytes);
+fn text(rt: &impl Print, bytes: &[u8]) -> io::Result<()> {
+    rt.write_all(bytes)
 }
 
-fn number(x: u16) {
-    io::print_decimal(1, x as u64);
+fn number(rt: &impl Print, x: u16) -> io::Result<()> {
+    rt.print(x)
 }
 
-fn setting(at: u16, priority: u16) {
-    number(at);
-    text(b" to ");
-    number(priority);
+fn setting(rt: &impl Print, at: u16, priority: u16) -> io::Result<()> {
+    number(rt, at)?;
+    text(rt, b" to ")?;
+    number(rt, priority)
 }
 
-fn on_source(id: u16, a: SourceAction) {
+fn on_source(rt: &impl Print, id: u16, a: SourceAction) -> io::Result<()> {
     match a {
         SourceAction::SetSourcePriority(priority) => {
-            text(b"set source ");
-            setting(id, priority);
+            text(rt, b"set source ")?;
+            setting(rt, id, priority)
         }
         SourceAction::Mask => {
-            text(b"mask ");
-            number(id);
+            text(rt, b"mask ")?;
+            number(rt, id)
         }
         SourceAction::Unmask => {
-            text(b"unmask ");
-            number(id);
+            text(rt, b"unmask ")?;
+            number(rt, id)
         }
         SourceAction::Trigger => {
-            text(b"trigger ");
-            number(id);
+            text(rt, b"trigger ")?;
+            number(rt, id)
         }
         SourceAction::Redeliver => {
-            text(b"redeliver ");
-            number(id);
+            text(rt, b"redeliver ")?;
+            number(rt, id)
         }
         SourceAction::Complete => {
-            text(b"complete ");
-            number(id);
+            text(rt, b"complete ")?;
+            number(rt, id)
         }
     }
 }
 
-fn on_core(core: u16, a: CoreAction) {
+fn on_core(rt: &impl Print, core: u16, a: CoreAction) -> io::Result<()> {
     match a {
         CoreAction::SetCorePriority(priority) => {
-            text(b"set core ");
-            setting(core, priority);
+            text(rt, b"set core ")?;
+            setting(rt, core, priority)
         }
         CoreAction::Claim => {
-            text(b"claim on core ");
-            number(core);
+            text(rt, b"claim on core ")?;
+            number(rt, core)
         }
     }
 }
 
-pub fn command(c: Command) {
+pub fn command(rt: &impl Print, c: Command) -> io::Result<()> {
     match c {
-        Command::OnSource(id, a) => on_source(id.0, a),
-        Command::OnCore(core, a) => on_core(core.0, a),
+        Command::OnSource(id, a) => on_source(rt, id.0, a),
+        Command::OnCore(core, a) => on_core(rt, core.0, a),
     }
 }
 
-pub fn label(x: u16) {
+pub fn label(rt: &impl Print, x: u16) -> io::Result<()> {
     if x == 0 {
-        text(b"     ");
-        return;
+        return text(rt, b"     ");
     }
-    text(b"T");
-    number(x);
+    text(rt, b"T")?;
+    number(rt, x)?;
     if x < 10 {
-        text(b" ");
+        text(rt, b" ")?;
     }
-    text(b"  ");
+    text(rt, b"  ")
 }
 
 // The current priorities, core 0 first.
-fn priorities(s: Controller) {
-    text(b"[");
+fn priorities(rt: &impl Print, s: Controller) -> io::Result<()> {
+    text(rt, b"[")?;
     let m = s.m as usize;
     let mut k = 0;
     while k < m {
         if k < CORES {
             if 0 < k {
-                text(b",");
+                text(rt, b",")?;
             }
-            number(records::current_priority(s.cores[k]));
+            number(rt, records::current_priority(s.cores[k]))?;
         }
         k += 1;
     }
-    text(b"]");
+    text(rt, b"]")
 }
 
 // The core whose box names the id, or m.
@@ -150,22 +150,21 @@ pub fn owned(s: Controller, id: u16, wanted: u16) -> bool {
     owner(r, holder(cores, m, at), m) == wanted as usize
 }
 
-fn owner_text(owner: usize) {
+fn owner_text(rt: &impl Print, owner: usize) -> io::Result<()> {
     if owner == SOURCE {
-        text(b"source");
-        return;
+        return text(rt, b"source");
     }
     if owner == SOFTWARE {
-        text(b"software");
-        return;
+        return text(rt, b"software");
     }
-    text(b"box ");
+    text(rt, b"box ")?;
     if BOX <= owner {
-        io::print_decimal(1, (owner - BOX) as u64);
+        rt.print((owner - BOX) as u64)?;
     }
+    Ok(())
 }
 
-fn owners(s: Controller) {
+fn owners(rt: &impl Print, s: Controller) -> io::Result<()> {
     let n = s.n as usize;
     let m = s.m as usize;
     let cores = s.cores;
@@ -174,104 +173,107 @@ fn owners(s: Controller) {
         if i < model::SOURCES {
             let r = s.sources[i];
             if r.pending {
-                text(b"  ");
-                io::print_decimal(1, i as u64 + 1);
-                text(b": ");
-                owner_text(owner(r, holder(cores, m, i + 1), m));
+                text(rt, b"  ")?;
+                rt.print(i as u64 + 1)?;
+                text(rt, b": ")?;
+                owner_text(rt, owner(r, holder(cores, m, i + 1), m))?;
             }
         }
         i += 1;
     }
+    Ok(())
 }
 
 // A number for no, in words.
-fn words(refusal: u8) {
+fn words(rt: &impl Print, refusal: u8) -> io::Result<()> {
     match refusal {
-        1 => text(b"the state isn't sound, or the lent record is bad"),
-        2 => text(b"a size is out of range, or the lent list is too long"),
-        3 => text(b"there is no such core"),
-        4 => text(b"there is no such source"),
-        5 => text(b"the priority is out of range"),
-        6 => text(b"the source is pending already"),
-        7 => text(b"the box is empty"),
-        8 => text(b"the request isn't claimed"),
-        _ => text(b"the source is pending, so its priority stays"),
+        1 => text(rt, b"the state isn't sound, or the lent record is bad"),
+        2 => text(rt, b"a size is out of range, or the lent list is too long"),
+        3 => text(rt, b"there is no such core"),
+        4 => text(rt, b"there is no such source"),
+        5 => text(rt, b"the priority is out of range"),
+        6 => text(rt, b"the source is pending already"),
+        7 => text(rt, b"the box is empty"),
+        8 => text(rt, b"the request isn't claimed"),
+        _ => text(rt, b"the source is pending, so its priority stays"),
     }
 }
 
-fn outcome(refusal: u8) {
+fn outcome(rt: &impl Print, refusal: u8) -> io::Result<()> {
     if refusal == 0 {
-        text(b": accepted, ");
-        return;
+        return text(rt, b": accepted, ");
     }
-    text(b": refused by ");
-    number(refusal as u16);
-    text(b" (");
-    words(refusal);
-    text(b"), ");
+    text(rt, b": refused by ")?;
+    number(rt, refusal as u16)?;
+    text(rt, b" (")?;
+    words(rt, refusal)?;
+    text(rt, b"), ")
 }
 
 // How many there are of something: "1 cycle", "2 cycles".
-fn counted(x: u16, what: &[u8]) {
-    number(x);
-    text(b" ");
-    text(what);
+fn counted(rt: &impl Print, x: u16, what: &[u8]) -> io::Result<()> {
+    number(rt, x)?;
+    text(rt, b" ")?;
+    text(rt, what)?;
     if x != 1 {
-        text(b"s");
+        text(rt, b"s")?;
     }
+    Ok(())
 }
 
 // "accepted" or the number for no, the claimed id if there is one, the cycles, the current priorities, and each pending request's owner.
-pub fn answer(a: Answer) {
-    outcome(a.number);
+pub fn answer(rt: &impl Print, a: Answer) -> io::Result<()> {
+    outcome(rt, a.number)?;
     if 0 < a.id.0 {
-        text(b"id ");
-        number(a.id.0);
-        text(b", ");
+        text(rt, b"id ")?;
+        number(rt, a.id.0)?;
+        text(rt, b", ")?;
     }
-    counted(a.cycles, b"cycle");
-    text(b", ");
+    counted(rt, a.cycles, b"cycle")?;
+    text(rt, b", ")?;
     let s = a.state;
-    priorities(s);
-    owners(s);
+    priorities(rt, s)?;
+    owners(rt, s)
 }
 
 // Whether a marked row is as the table wants it.
-pub fn verdict(wanted: bool) {
+pub fn verdict(rt: &impl Print, wanted: bool) -> io::Result<()> {
     if wanted {
-        text(b"   as the table wants");
-        return;
+        return text(rt, b"   as the table wants");
     }
-    text(b"   NOT AS THE TABLE WANTS");
+    text(rt, b"   NOT AS THE TABLE WANTS")
 }
 
-pub fn line_end() {
-    text(b"\n");
+pub fn line_end(rt: &impl Print) -> io::Result<()> {
+    text(rt, b"\n")
 }
 
 // How many marked rows are as the table wants, of how many.
-pub fn count(good: u16, marked: u16) {
-    text(b"\n");
-    number(good);
-    text(b" of ");
-    number(marked);
-    text(b" marked rows are as the table wants\n");
+pub fn count(rt: &impl Print, good: u16, marked: u16) -> io::Result<()> {
+    text(rt, b"\n")?;
+    number(rt, good)?;
+    text(rt, b" of ")?;
+    number(rt, marked)?;
+    text(rt, b" marked rows are as the table wants\n")
 }
 
 // What making a controller of some sizes answers.
-pub fn making(n: u16, m: u16, a: Answer) {
-    text(b"make ");
-    counted(n, b"source");
-    text(b", ");
-    counted(m, b"core");
-    outcome(a.number);
-    text(b"handed back: ");
-    counted(a.state.n, b"source");
-    text(b", ");
-    counted(a.state.m, b"core");
-    text(b"\n");
+pub fn making(rt: &impl Print, n: u16, m: u16, a: Answer) -> io::Result<()> {
+    text(rt, b"make ")?;
+    counted(rt, n, b"source")?;
+    text(rt, b", ")?;
+    counted(rt, m, b"core")?;
+    outcome(rt, a.number)?;
+    text(rt, b"handed back: ")?;
+    counted(rt, a.state.n, b"source")?;
+    text(rt, b", ")?;
+    counted(rt, a.state.m, b"core")?;
+    text(rt, b"\n")
 }
 
-pub fn start() {
-    text(b"\nstart: 32 sources, 2 cores, every source unmasked with priority equal to its id\n");
+pub fn start(rt: &impl Print) -> io::Result<()> {
+    text(
+        rt,
+        b"\nstart: 32 sources, 2 cores, every source unmasked with priority equal to its id\n",
+    )
 }

@@ -9,8 +9,7 @@ use layout::{COMMAND_SIZE, NO_COUNT, STATE_SIZE, UNREADABLE};
 use model::{CORES, Decoded, SOURCES};
 
 // A fresh controller of n sources and m cores, written as bytes. Sizes out of range are refused by 2, and the buffer stays as it was.
-#[unsafe(no_mangle)]
-pub extern "C" fn psic_make(n: u16, m: u16, state: &mut [u8]) -> u64
+pub fn psic_make(n: u16, m: u16, state: &mut [u8]) -> u64
     ensures { Does result state.new (make_call n m state.old) }
 {
     if state.len() != STATE_SIZE {
@@ -27,8 +26,7 @@ pub extern "C" fn psic_make(n: u16, m: u16, state: &mut [u8]) -> u64
 }
 
 // One command, by its number 0 to 7, on the state that the bytes encode.
-#[unsafe(no_mangle)]
-pub extern "C" fn psic_execute(state: &mut [u8], number: u16, at: u16, priority: u16) -> u64
+pub fn psic_execute(state: &mut [u8], number: u16, at: u16, priority: u16) -> u64
     ensures { Does result state.new (execute_call number at priority state.old) }
 {
     if !decoding::is_state(state) {
@@ -48,8 +46,7 @@ pub extern "C" fn psic_execute(state: &mut [u8], number: u16, at: u16, priority:
 
 // A list of commands, 5 bytes each, from the state that the bytes encode; an answer of 5 bytes for each. A command with a number
 // above 7 ends the run: the count says how many were taken. The state is tested once.
-#[unsafe(no_mangle)]
-pub extern "C" fn psic_run(state: &mut [u8], list: &[u8], answers: &mut [u8]) -> u64
+pub fn psic_run(state: &mut [u8], list: &[u8], answers: &mut [u8]) -> u64
     ensures { DoesRun result state.new answers.new
         (run_call state.old list.now answers.old) }
 {

@@ -6,13 +6,13 @@
 --   passes, refused           the test's value from the fact, and from its refutation
 --   agree                     two tests of equivalent facts have the same value
 --   given                     an answer r of the test says the same
---   accepted, rejected        what it says where the code branches on `!r`
+--   accepted, rejected        what it says where the code branches on it
 use Prim.Native.Nat.{ℕ, ◌<◌, ◌≤◌}
 use mathlib.Core.Path.{◌≡◌, refl, sym, ◌∙◌}
 use mathlib.Core.Logic.{◌↔◌}
 use mathlib.Core.Bool.{Bool, true, false, not, ◌&&◌, ◌||◌}
 use lib.Dec.{ltb, leb, eqb}
-use borrow.Author.Tests.{ltb-true, ltb-false, leb-true, eqb-true, lt-ltb, le-ltb, le-leb, eq-eqb, not-true, not-false}
+use borrow.Author.Tests.{ltb-true, ltb-false, leb-true, eqb-true, lt-ltb, le-ltb, le-leb, eq-eqb, not-true}
 use Rattle.lists.specs.Walks.{every}
 use Rattle.lists.specs.Numbers.{between}
 use Rattle.lists.proofs.Bools.{and_in, and_l, and_r, not_in, clash, Flag, on, off, flag}
@@ -82,11 +82,11 @@ refused {b} y r = sym (not-true b ((refuted_exact y).1 r))
 pub given : {r b : Bool} {B : Type 0} → Exact b B → r ≡ b → Exact r B
 given y e = (λ q. y.0 (sym e ∙ q), λ p. e ∙ y.1 p)
 
-pub accepted : {r b : Bool} {B : Type 0} → Exact b B → r ≡ b → not r ≡ false → B
-accepted {r} y e q = (given y e).0 (not-false r q)
+pub accepted : {r b : Bool} {B : Type 0} → Exact b B → r ≡ b → r ≡ true → B
+accepted y e q = (given y e).0 q
 
-pub rejected : {r b : Bool} {B : Type 0} → Exact b B → r ≡ b → not r ≡ true → ¬ B
-rejected {r} y e q p = clash ((given y e).1 p) (not-true r q)
+pub rejected : {r b : Bool} {B : Type 0} → Exact b B → r ≡ b → r ≡ false → ¬ B
+rejected y e q p = clash ((given y e).1 p) q
 
 pub agree : {a b : Bool} {A B : Type 0} → Exact a A → Exact b B → (A → B) → (B → A) → a ≡ b
 agree {a} {b} x y to back = go (flag a)

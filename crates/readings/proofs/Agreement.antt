@@ -24,7 +24,7 @@ use Rattle.recording.specs.Words.{any}
 use Rattle.recording.specs.Values.{is_code, code_of}
 use Rattle.recording.specs.Records.{variable_of, with_variable_of, variable_with, start, variable, with_value, declaring}
 use Rattle.recording.specs.Declarations.{signals, name_of, Form, narrow, forms, width_in, declared, all_declared, fits, has_code, declares}
-use Rattle.recording.specs.Grammar.{Declaration, declaration, Once, none, more, Complete}
+use Rattle.recording.specs.Grammar.{Declaration, Once, none, more, Complete}
 use Rattle.readings.proofs.Codes.{name_injective, code_injective, code_positive, positive_code}
 use Rattle.readings.proofs.Lists.{all_in, all_out, any_in, any_out, none_out, every_signal, read_same, Compared, same, other}
 use Rattle.readings.proofs.Lists.{compare}
@@ -129,6 +129,7 @@ small_widths f (here e) s = rw e (go s)
     go Core = omega arith
     go Arg = omega arith
     go Prio = omega arith
+small_widths f (there m) s = elim m [ ]
 
 -- what the reader has read of a declaration of s
 pub record Pends (r : Reader) (s : Signal) (d : Declaration) : Type 0 where

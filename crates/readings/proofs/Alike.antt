@@ -2,7 +2,7 @@
 --   Alike f t u     the words f ∷ t and f ∷ u: the same number behind # or a digit, the same bits behind b or B
 --   alike_more      so they stay with another byte
 --   alike_read      if they have 256 bytes or more, they are read alike, at every place
-use Prim.Native.Nat.{ℕ, zero, suc, ◌+◌, ◌^◌, ◌≤◌, ◌<◌, min}
+use Prim.Native.Nat.{ℕ, zero, suc, ◌^◌, ◌≤◌, ◌<◌, min}
 use Prim.Native.String.{String}
 use mathlib.Core.Path.{◌≡◌, refl, sym, ap, ◌∙◌}
 use mathlib.Core.Option.{none}

@@ -29,7 +29,7 @@ use Rattle.recording.specs.Declarations.{name_of, has_code}
 use Rattle.recording.specs.Reading.{is_body, out_of_place, is_vector, is_scalar, read_change, vector_signal, read_vector_code, starts_time, read_time}
 use Rattle.recording.specs.Reading.{is_dump, read_body, read_block, read_at, advance, read_words, finished}
 use Rattle.recording.specs.Faults.{takes_vector, is_change, fits_in, declares_well}
-use Rattle.recording.specs.Grammar.{Declaration, Once, more, Change, scalar, vector, Changes, Items}
+use Rattle.recording.specs.Grammar.{Declaration, Once, none, more, Change, scalar, vector, Changes, Items}
 use Rattle.readings.proofs.Codes.{same_bytes_lem, name_injective}
 use Rattle.readings.proofs.Lists.{all_out, any_out, first_in}
 use Rattle.readings.proofs.Agreement.{Known, known_declared, Agrees, agrees_kept, value_kinds, Declares, code_of_lem}
@@ -115,6 +115,7 @@ in_block =
 -- two declarations with the same code are one
 once : (f : Declaration → List ℕ) (ds : List Declaration) → Once f ds → (d e : Declaration) → Memᴰ d ds → Memᴰ e ds →
     f d ≡ f e → d ≡ e
+once f _ none d e m _ k = elim m [ ]
 once f ds (more h o) d e (here p) (here q) k = p ∙ sym q
 once f ds (more h o) d e (here p) (there m) k = absurd (h e m (sym (ap f p) ∙ k))
 once f ds (more h o) d e (there m) (here q) k = absurd (h d m (sym (ap f q) ∙ sym k))

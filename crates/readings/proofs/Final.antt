@@ -137,6 +137,7 @@ not_zero k (there (here e)) = rw e
 not_zero k (there (there (here e))) = rw e
 not_zero k (there (there (there (here e)))) = rw e
 not_zero k (there (there (there (there (here e))))) = rw e
+not_zero k (there (there (there (there (there m))))) = elim m [ ]
 
 module _ (t : List ℕ) (p : Progress) where
   shown_answer : Ended (words t) (length t) p.reader.fault →

@@ -19,6 +19,7 @@ use Rattle.recording.specs.Declarations.{signals, first}
 
 module _ {A : Type 0} (f : A → Bool) where
   pub all_out : (l : List A) → all f l ≡ true → (a : A) → Memᴰ a l → f a ≡ true
+  all_out [] e a m = elim m [ ]
   all_out (x ∷ xs) e a (here p) = ap f p ∙ and_l (f x) (all f xs) e
   all_out (x ∷ xs) e a (there m) = all_out xs (and_r (f x) (all f xs) e) a m
 
@@ -27,6 +28,7 @@ module _ {A : Type 0} (f : A → Bool) where
   all_in (x ∷ xs) h = and_in (h x (here refl)) (all_in xs (λ a m. h a (there m)))
 
   pub any_in : (l : List A) (a : A) → Memᴰ a l → f a ≡ true → any f l ≡ true
+  any_in [] a m e = elim m [ ]
   any_in (x ∷ xs) a (here p) e = or_in_l (any f xs) (sym (ap f p) ∙ e)
   any_in (x ∷ xs) a (there m) e = or_in_r (f x) (any_in xs a m e)
 
@@ -60,6 +62,7 @@ first_out f (x ∷ xs) s e = go (flag (f x)) (first_out f xs s)
 
 pub first_in : (f : Signal → Bool) (l : List Signal) (s : Signal) → Memᴰ s l → f s ≡ true →
     (s' : Signal) × (first f l ≡ some s') × (f s' ≡ true)
+first_in f [] s m e = elim m [ ]
 first_in f (x ∷ xs) s m e = go (flag (f x)) m (first_in f xs s)
   where
     go : Flag (f x) → Memᴰ s (x ∷ xs) → (Memᴰ s xs → f s ≡ true → (s' : Signal) × (first f xs ≡ some s') × (f s' ≡ true)) →

@@ -116,8 +116,7 @@ fn read_all(text: &[u8], commands: &mut [u8], times: &mut [u64]) -> Report
 }
 
 // The commands of a recording, five bytes each, and the times of the stamps at whose ends they are taken.
-#[unsafe(no_mangle)]
-pub extern "C" fn psic_read(text: &[u8], commands: &mut [u8], times: &mut [u64]) -> Report
+pub fn psic_read(text: &[u8], commands: &mut [u8], times: &mut [u64]) -> Report
     ensures { DoesRead result commands.new times.new
         (read_call text.now commands.old times.old) }
 {
@@ -172,14 +171,7 @@ fn replay_all(n: u16, m: u16, text: &[u8], state: &mut [u8], answers: &mut [u8])
 
 // The state after the replay of a recording from a fresh controller of n sources and m cores, and its answers, five bytes each. It goes
 // on after a refused command. Sizes out of range are refused by 2 before any reading.
-#[unsafe(no_mangle)]
-pub extern "C" fn psic_replay(
-    n: u16,
-    m: u16,
-    text: &[u8],
-    state: &mut [u8],
-    answers: &mut [u8],
-) -> Report
+pub fn psic_replay(n: u16, m: u16, text: &[u8], state: &mut [u8], answers: &mut [u8]) -> Report
     ensures { DoesReplay result state.new answers.new
         (replay_call n m text.now state.old answers.old) }
 {

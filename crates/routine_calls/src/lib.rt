@@ -13,8 +13,7 @@ use model::{CORES, CoreId, SOURCES};
 use routines::RoutineCall;
 
 // A fresh simulation of n sources and m cores. Sizes out of range are refused by 2, and the memory stays as it was.
-#[unsafe(no_mangle)]
-pub extern "C" fn psic_make_routines(
+pub fn psic_make_routines(
     n: u16,
     m: u16,
     state: &mut [u8],
@@ -71,13 +70,7 @@ fn called(state: &mut [u8], active: &mut [u16], holder: &mut [u16], c: RoutineCa
 }
 
 // Entry of a routine on a core.
-#[unsafe(no_mangle)]
-pub extern "C" fn psic_enter(
-    state: &mut [u8],
-    active: &mut [u16],
-    holder: &mut [u16],
-    core: u16,
-) -> u64
+pub fn psic_enter(state: &mut [u8], active: &mut [u16], holder: &mut [u16], core: u16) -> u64
     ensures { DoesCall result state.new active.new holder.new
         (routine_call (Enter (core_id core)) state.old active.old holder.old) }
 {
@@ -85,13 +78,7 @@ pub extern "C" fn psic_enter(
 }
 
 // Exit of the routine that is active on a core.
-#[unsafe(no_mangle)]
-pub extern "C" fn psic_exit(
-    state: &mut [u8],
-    active: &mut [u16],
-    holder: &mut [u16],
-    core: u16,
-) -> u64
+pub fn psic_exit(state: &mut [u8], active: &mut [u16], holder: &mut [u16], core: u16) -> u64
     ensures { DoesCall result state.new active.new holder.new
         (routine_call (Exit (core_id core)) state.old active.old holder.old) }
 {

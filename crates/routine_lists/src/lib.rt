@@ -66,8 +66,7 @@ fn simulate_all(
 
 // A list of calls, 5 bytes each; an answer of 5 bytes for each. Handovers are counted on in the table, 32 rows of 32 numbers. A number
 // that names no call ends the run: the count says how many were taken. The simulation is tested once.
-#[unsafe(no_mangle)]
-pub extern "C" fn psic_simulate(
+pub fn psic_simulate(
     state: &mut [u8],
     active: &mut [u16],
     holder: &mut [u16],

@@ -1,9 +1,9 @@
 -- What changes and times do where a change may stand. Assumes nothing.
 --   names_cmd, .., names_prio    the first variable with a code
---   places-some, places_none     a vector's code names a variable that takes the vector, or not
---   coded-vector                 bits from an offset on and the code that follows them
---   follows-vector, follows-level, follows-time    a whole change, or a time, that gives no command
---   quiet_start, quiet-vector, quiet-level, quiet-time    the same from a reader with other values, time and level
+--   places_some, places_none     a vector's code names a variable that takes the vector, or not
+--   coded_vector                 bits from an offset on and the code that follows them
+--   follows_vector, follows_level, follows_time    a whole change, or a time, that gives no command
+--   quiet_start, quiet_vector, quiet_level, quiet_time    the same from a reader with other values, time and level
 --   takes_command                a time that gives a command
 use Prim.Native.Nat.{ℕ, ◌+◌, ◌-◌, ◌%◌, ◌<◌, ◌≤◌, min}
 use mathlib.Core.Path.{◌≡◌, refl, sym, ap, subst, ◌∙◌}
@@ -88,12 +88,12 @@ module _ (vs : Variables) (code : ℕ) (h : code ≡ 0 → ⊥) where
           rw (lacks Cmd no-cmd r w er ec, lacks Core no_such_core r w er ec, lacks Arg no-arg r w er ec, has Prio e r w er ec)
 
 module _ (vs : Variables) (code : ℕ) (v : Vector) (p : Placed) where
-  pub places-some :
+  pub places_some :
       (s : Signal) (x : Variable) (fits : Bool) → p ≡ placed_with fits (with_variable_of vs s x) →
       fits ≡ leb v.length (variable_of vs s).width → x ≡ variable_with (variable_of vs s).code (variable_of vs s).width v.value →
       (code ≡ 0 → ⊥) → ((r : Reader) (w : List ℕ) → r.variables ≡ vs → code ≡ code_of w → vector_signal r w ≡ some s) → Places vs code v p
   unfolding read_vector_code
-  places-some s x fits e ef ex h named =
+  places_some s x fits e ef ex h named =
       rw e
       (record {
         some = λ f. omega arith;
@@ -146,12 +146,12 @@ some_bits [] h e = absurd (omega arith)
 some_bits (b ∷ u) h e = e
 
 module _ (t : List ℕ) (from : ℕ) where
-  pub coded-vector :
+  pub coded_vector :
       (b : Bits) (i : ℕ) (c : Coded) (v : Vector) (end : ℕ) (g : Given) →
       BitsThere t from b → b.whole ≡ true → from < b.end → b.end - from ≤ 255 → Skips t b.end i → CodeThere t i c →
       v ≡ bits_vector (b.end - from) b.known (b.number % 65536) → Skips t c.end end → g ≡ given_with end c.code v →
       VectorThere t from g
-  coded-vector b i c v end g o whole more short s k ev s' eg = rw eg (λ h. go h (o.end whole) (o.number whole) (k.end h) (k.code h))
+  coded_vector b i c v end g o whole more short s k ev s' eg = rw eg (λ h. go h (o.end whole) (o.number whole) (k.end h) (k.code h))
     where
       go : 0 < c.code → b.end ≡ from + length (word_from t from) →
           more_bits (number_with true true false 0) (word_from t from) ≡ number_with true b.known false b.number →
@@ -228,11 +228,11 @@ module _ (r : Reader) (i : ℕ) (u : List ℕ) (good : r.fault.number ≡ 0) whe
     read_vector b k e =
         read_change_lem block pl b (other_byte is_binary b 35 k refl) (other_byte is_binary b 36 k refl) ∙ rw (k, e)
 
-    read-level :
+    read_level :
         (b : ℕ) → is_bit b ≡ true → has_code r u Stb ≡ true →
         read_word r (word_with i (b ∷ u)) ≡ only (with_variables (with_level r.variables b) (at (change_place block) r))
     unfolding read_change
-    read-level b e k =
+    read_level b e k =
         read_change_lem block pl b (other_byte is_bit b 35 e refl) (other_byte is_bit b 36 e refl)
         ∙ rw (other_byte is_bit b 98 e refl, other_byte is_bit b 66 e refl, e, k)
 
@@ -246,24 +246,24 @@ module _ (r : Reader) (i : ℕ) (w : List ℕ) (time : ℕ) (good : r.fault.numb
   later_word : ltb r.stamp.time (time_of w) ≡ true
   later_word = lt-ltb r.stamp.time (time_of w) (omega arith)
 
-  time-quiet :
+  time_quiet :
       (eqb r.variables.stb.value.number 1 && not r.stamp.up) ≡ false →
       read_time r (word_with i w) ≡ only (with_time time (with_up (eqb r.variables.stb.value.number 1) r))
   unfolding read_time and_then end_open_stamp end_stamp open_stamp
-  time-quiet q = rw (opened, known, q, eq-eqb _ _ good, e, later_word, et)
+  time_quiet q = rw (opened, known, q, eq-eqb _ _ good, e, later_word, et)
 
-  time-taken :
+  time_taken :
       r.variables.stb.value.number ≡ 1 → r.stamp.up ≡ false → is_readable r ≡ true → r.taken < 65535 →
       read_time r (word_with i w) ≡ read_with (after_command r time) (strobe_of r)
   unfolding read_time and_then end_open_stamp end_stamp open_stamp is_readable strobe_of
-  time-taken n up readable room =
+  time_taken n up readable room =
       rw (opened, known, eq-eqb _ _ n, up, readable, lt-leb 65535 r.taken room, eq-eqb _ _ good, e, later_word, et)
 
 pub takes_all :
     (r : Reader) (time : ℕ) → r.stamp.opened ≡ true → r.variables.stb.value.known ≡ true → r.variables.stb.value.number ≡ 1 →
     r.stamp.up ≡ false → r.stamp.time < time → r.taken < 65535 → is_readable r ≡ true → Takes r time
 takes_all r time opened known n up later room readable =
-    record { room = room; gives = λ good i w e et. time-taken r i w time good e et opened known later n up readable room }
+    record { room = room; gives = λ good i w e et. time_taken r i w time good e et opened known later n up readable room }
 
 -- no time, or one that gives a command
 pub no_quiet :
@@ -292,25 +292,25 @@ module _ (t : List ℕ) (i : ℕ) (h : i < length t) where
     pub first_end : (end : ℕ) → end ≡ i + 1 + length (word_from t (i + 1)) → end ≡ i + length (word_from t i)
     first_end end e = omega (arith, ap length word_first)
 
-    follows-first :
+    follows_first :
         (end : ℕ) (r r' : Reader) → end ≡ i + 1 + length (word_from t (i + 1)) →
         read_word r (word_with i (b ∷ word_from t (i + 1))) ≡ only r' → Follows t i r end r'
-    follows-first end r r' e g =
+    follows_first end r r' e g =
         follows_word t i h starts_word end (first_end end e) r r' (ap (λ (w : List ℕ). read_word r (word_with i w)) word_first ∙ g)
 
     -- a word, and the separators after it
-    follows-skip :
+    follows_skip :
         (end end' : ℕ) (r r' : Reader) → end ≡ i + 1 + length (word_from t (i + 1)) → Skips t end end' →
         read_word r (word_with i (b ∷ word_from t (i + 1))) ≡ only r' → Follows t i r end' r'
-    follows-skip end end' r r' e s g =
-        follows_then t (follows-first end r r' e g) (follows_skips t end end' r' s)
+    follows_skip end end' r r' e s g =
+        follows_then t (follows_first end r r' e g) (follows_skips t end end' r' s)
 
   module _ (r : Reader) (block : Bool) (pl : r.place ≡ change_place block) (good : r.fault.number ≡ 0) where
-    pub follows-vector :
+    pub follows_vector :
         (b : ℕ) (g : Given) (p : Placed) → get_or t i 0 ≡ b → is_binary b ≡ true → CodedVector t (i + 1) g →
         Places r.variables g.code g.vector p → p.found ≡ true →
         Follows t i r g.end (with_variables p.variables (at (change_place block) (with_vector g.vector r)))
-    follows-vector b g p eb k v q f =
+    follows_vector b g p eb k v q f =
         let u = word_from t (i + 1) in
         let mid = i + 1 + length u in
         let code = word_from t v.at in
@@ -318,7 +318,7 @@ module _ (t : List ℕ) (i : ℕ) (h : i < length t) where
         let r₁ = at (code_place block) (with_vector g.vector r) in
         let r₂ = with_variables p.variables (at (change_place block) (with_vector g.vector r)) in
         follows_then t
-        (follows-first b eb (binary_range b k) mid r r₁ refl
+        (follows_first b eb (binary_range b k) mid r r₁ refl
         (read_vector r i u good block pl b k v.bits
         ∙ ap (λ (x : Vector). only (at (code_place block) (with_vector x r))) (sym v.vector)))
         (follows_then t (follows_passes t mid v.at r₁ v.later (λ x. omega (arith, v.inside)) v.passes)
@@ -328,31 +328,31 @@ module _ (t : List ℕ) (i : ℕ) (h : i < length t) where
         ∙ ap only (q.takes f (change_place block) r₁ v.at code refl refl v.code)))
         (follows_passes t over g.end r₂ v.moves (λ x. v.within) v.rest)))
 
-    pub follows-level :
+    pub follows_level :
         (b : ℕ) (c : Coded) (end : ℕ) → get_or t i 0 ≡ b → is_bit b ≡ true → CodeThere t (i + 1) c →
         (ltb 0 c.code && eqb r.variables.stb.code c.code) ≡ true → Skips t c.end end →
         Follows t i r end (with_variables (with_level r.variables b) (at (change_place block) r))
-    follows-level b c end eb k there e s =
+    follows_level b c end eb k there e s =
         let some : 0 < c.code = ltb-true 0 c.code (and_l (ltb 0 c.code) (eqb r.variables.stb.code c.code) e) in
         let same : r.variables.stb.code ≡ c.code
         = eqb-true r.variables.stb.code c.code (and_r (ltb 0 c.code) (eqb r.variables.stb.code c.code) e) in
         let code : c.code ≡ code_of (word_from t (i + 1)) = there.code some in
-        follows-skip b eb (bit_range b k) c.end end r _ (there.end some) s
-        (read-level r i (word_from t (i + 1)) good block pl b k (has_code_lem r (word_from t (i + 1)) Stb (omega arith) (same ∙ code)))
+        follows_skip b eb (bit_range b k) c.end end r _ (there.end some) s
+        (read_level r i (word_from t (i + 1)) good block pl b k (has_code_lem r (word_from t (i + 1)) Stb (omega arith) (same ∙ code)))
 
   module _ (r : Reader) (pl : r.place ≡ Body) (good : r.fault.number ≡ 0) where
     module _ (a : Timed) (eb : get_or t i 0 ≡ 35) (there : TimeThere t (i + 1) a) (whole : a.whole ≡ true) where
       is_time_lem : is_time (35 ∷ word_from t (i + 1)) ≡ true
       is_time_lem = and_in (there.digits whole) (there.fits whole)
 
-      pub follows-time :
+      pub follows_time :
           (end : ℕ) (opened : Bool) → r.stamp.opened ≡ true →
           QuietTime t (i + 1) opened r.variables.stb.value r.stamp.up r.stamp.time a → Skips t a.end end →
           Follows t i r end (with_time a.time (with_up (eqb r.variables.stb.value.number 1) r))
-      follows-time end opened o q s =
-          follows-skip 35 eb (omega arith) a.end end r _ (there.end whole) s
+      follows_time end opened o q s =
+          follows_skip 35 eb (omega arith) a.end end r _ (there.end whole) s
           (read_hash r i (word_from t (i + 1)) good pl
-          ∙ time-quiet r i (35 ∷ word_from t (i + 1)) a.time good is_time_lem (there.time whole) o (q.known whole)
+          ∙ time_quiet r i (35 ∷ word_from t (i + 1)) a.time good is_time_lem (there.time whole) o (q.known whole)
           (q.later whole) (q.quiet whole))
 
       pub takes_command : Takes r a.time → read_with (after_command r a.time) (strobe_of r) ≡ read_word r (word_with i (word_from t i))
@@ -371,26 +371,26 @@ quiet_start t from i r block pl s = subst (λ (x : Place). Follows t from r i (a
 -- the same from a reader with other values, time and level
 module _ (t : List ℕ) (i : ℕ) (h : i < length t) (r : Reader) (good : r.fault.number ≡ 0) (block : Bool)
     (vs : Variables) (v : Vector) (time : ℕ) (up : Bool) where
-  pub quiet-vector :
+  pub quiet_vector :
       (b : ℕ) (g : Given) (p : Placed) → get_or t i 0 ≡ b → is_binary b ≡ true → CodedVector t (i + 1) g →
       Places vs g.code g.vector p → p.found ≡ true →
       Follows t i (changed_to block r vs v time up) g.end (changed_to block r p.variables g.vector time up)
-  quiet-vector b g p eb k c q f = follows-vector t i h (changed_to block r vs v time up) block refl good b g p eb k c q f
+  quiet_vector b g p eb k c q f = follows_vector t i h (changed_to block r vs v time up) block refl good b g p eb k c q f
 
-  pub quiet-level :
+  pub quiet_level :
       (b : ℕ) (c : Coded) (end : ℕ) → get_or t i 0 ≡ b → is_bit b ≡ true → CodeThere t (i + 1) c →
       (ltb 0 c.code && eqb vs.stb.code c.code) ≡ true → Skips t c.end end →
       Follows t i (changed_to block r vs v time up) end (changed_to block r (with_level vs b) v time up)
-  quiet-level b c end eb k there e s = follows-level t i h (changed_to block r vs v time up) block refl good b c end eb k there e s
+  quiet_level b c end eb k there e s = follows_level t i h (changed_to block r vs v time up) block refl good b c end eb k there e s
 
-  pub quiet-time :
+  pub quiet_time :
       (a : Timed) (end : ℕ) (ends : Bool) → get_or t i 0 ≡ 35 → ends ≡ (r.stamp.opened && not block) →
       QuietTime t (i + 1) ends vs.stb.value up time a → a.whole ≡ true → Skips t a.end end →
       Follows t i (changed_to block r vs v time up) end (changed_to block r vs v a.time (eqb vs.stb.value.number 1))
-  quiet-time a end ends eb e q whole s =
+  quiet_time a end ends eb e q whole s =
       let both = sym e ∙ q.is_open whole in
       let opened = and_l r.stamp.opened (not block) both in
       let outside = not-true block (and_r r.stamp.opened (not block) both) in
       let r' = changed_to block r vs v time up in
       subst (λ (x : Bool). Follows t i r' end (with_stamp (stamp_with x a.time (eqb vs.stb.value.number 1)) r')) (sym opened)
-      (follows-time t i h r' (ap change_place outside) good a eb q.there whole end ends opened q s)
+      (follows_time t i h r' (ap change_place outside) good a eb q.there whole end ends opened q s)

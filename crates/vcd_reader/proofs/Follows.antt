@@ -2,8 +2,8 @@
 --   follows_none, follows_then, follows_passes, follows_skips    nothing is read; one part after another; separators
 --   follows_separator, follows_word               a separator; a word that gives no command
 --   follows_bad                                   a reader with a fault stays as it is
---   advances-word, advances-after, advances-quiet a word; after words that give no command; these words alone
---   keeps-run                                     what is kept of the word at an offset
+--   advances_word, advances_after, advances_quiet a word; after words that give no command; these words alone
+--   keeps_run                                     what is kept of the word at an offset
 use Prim.Native.Nat.{ℕ, ◌+◌, ◌<◌, ◌≤◌}
 use mathlib.Core.Path.{◌≡◌, refl, sym, ap, ◌∙◌}
 use mathlib.Core.List.{List, [], ◌∷◌, ◌++◌, append-nil}
@@ -79,9 +79,9 @@ module _ (t : List ℕ) where
     pub word_within : end ≤ length t
     word_within = run_inside t i end f word_moves
 
-    pub keeps-run :
+    pub keeps_run :
         (s n : Partial) → s ≡ extended_by n (run (drop i t)) → n ≡ empty → ((j : ℕ) → get_or t j 0 < 256) → Keeps s (run (drop i t))
-    keeps-run s n es en bytes =
+    keeps_run s n es en bytes =
         record {
           kept = es ∙ ap (λ (x : Partial). extended_by x (run (drop i t))) en;
           small = run_small t i bytes;
@@ -97,11 +97,11 @@ module _ (t : List ℕ) where
           times = ap (times_from r) (cut_word t i h e end f) ∙ times_quiet r r' _ _ g;
         }
 
-    pub advances-word :
+    pub advances_word :
         (r : Reader) (a : Read) → a ≡ read_word r (word_with i (run (drop i t))) →
         Advances t i r (advanced_with a.reader end a.strobe r.stamp.time)
     unfolding read_words advance times_from
-    advances-word r a g =
+    advances_word r a g =
         record {
           within = λ x. word_within;
           moves = λ x. word_moves;
@@ -115,9 +115,9 @@ module _ (t : List ℕ) where
         }
 
   -- words that give no command, and then something that moves
-  pub advances-after :
+  pub advances_after :
       {i j : ℕ} {r r' : Reader} {a : Advanced} → Follows t i r j r' → j < length t → Advances t j r' a → Advances t i r a
-  advances-after {i} {j} {r} {r'} {a} f h s =
+  advances_after {i} {j} {r} {r'} {a} f h s =
       record {
         within = λ x. s.within (f.within x);
         moves = λ x. omega (arith, f.moves, s.moves h);
@@ -126,11 +126,11 @@ module _ (t : List ℕ) where
       }
 
   -- words that give no command, and nothing else
-  pub advances-quiet :
+  pub advances_quiet :
       {i j : ℕ} {r r' : Reader} (time : ℕ) → Follows t i r j r' → (i < length t → i < j) →
       Advances t i r (advanced_with r' j no_strobe time)
   unfolding commands_of
-  advances-quiet {i} {j} {r} {r'} time f h =
+  advances_quiet {i} {j} {r} {r'} time f h =
       record {
         within = f.within;
         moves = h;

@@ -4,7 +4,7 @@
 --   passed_by                              a word after which others are skipped, up to their $end
 --   reads_comment, reads_skipped           the words after which others are skipped
 --   reads_end, reads_dump                  the words that end and begin a block
---   turns-by, turns-comment                these words and comments, where changes may stand
+--   turns_by, turns_comment                these words and comments, where changes may stand
 use Prim.Native.Nat.{ℕ, ◌+◌, ◌<◌, ◌≤◌}
 use mathlib.Core.Path.{◌≡◌, refl, sym, ap, subst, ◌∙◌}
 use mathlib.Core.List.{List, []}
@@ -160,13 +160,13 @@ no_passed p t i e f = record { moves = λ g. clash g f; passes = λ g. clash g f
 -- ---- where changes may stand
 
 module _ (t : List ℕ) (i : ℕ) (block : Bool) (k : Turned) where
-  pub turns-by :
+  pub turns_by :
       (found : Bool) (end : ℕ) (next : Bool) → k ≡ turned_with found end next →
       (found ≡ true → word_from t i ≡ [] → ⊥) → (found ≡ true → end ≡ i + length (word_from t i)) →
       (found ≡ true → (r : Reader) → r.place ≡ change_place block → r.fault.number ≡ 0 →
       read_word r (word_with i (word_from t i)) ≡ only (at (change_place next) r)) →
       Turns t i block k
-  turns-by found end next e some ends reads =
+  turns_by found end next e some ends reads =
       rw e
       (record {
         moves = λ f. word_moves t i (word_inside t i (some f)) (word_starts t i (some f)) end (ends f);
@@ -175,9 +175,9 @@ module _ (t : List ℕ) (i : ℕ) (block : Bool) (k : Turned) where
             (reads f r pl good);
       })
 
-  pub turns-comment :
+  pub turns_comment :
       block ≡ false → (e : Ended) → k ≡ turned_with true e.end false → e.found ≡ true → PassedBy Body t i e → Turns t i block k
-  turns-comment outside e q f p =
+  turns_comment outside e q f p =
       rw q
       (record {
         moves = λ g. p.moves f;

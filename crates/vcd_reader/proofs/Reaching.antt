@@ -2,9 +2,9 @@
 --   Within, within_none, within_more, within_all    the bytes of a word up to i
 --   is_over, over                               whether a word has a byte
 --   word_inside, word_starts                    a word that has one begins at its offset
---   BitsTo, bits_none, bits-more, ones-more, bits-there    bits up to i, and their number
---   CodeTo, code_none, code-more, code_there    the bytes of a code up to i, and what they spell
---   TimeTo, time_none, time-more, time-there    decimal digits up to i, and their number
+--   BitsTo, bits_none, bits_more, ones_more, bits_there    bits up to i, and their number
+--   CodeTo, code_none, code_more, code_there    the bytes of a code up to i, and what they spell
+--   TimeTo, time_none, time_more, time_there    decimal digits up to i, and their number
 use Prim.Native.Nat.{ℕ, ◌+◌, ◌*◌, ◌-◌, ◌<◌, ◌≤◌, min}
 use mathlib.Core.Path.{◌≡◌, refl, sym, ap, ◌∙◌}
 use mathlib.Core.List.{List, [], ◌∷◌, map}
@@ -117,12 +117,12 @@ module _ (t : List ℕ) (from : ℕ) where
   pub bits_none : BitsTo true 0 from
   bits_none = record { inside = within_none t from; bits = refl }
 
-  pub bits-more :
+  pub bits_more :
       (known : Bool) (number i : ℕ) (known' : Bool) (number' : ℕ) → BitsTo known number i → i < length t →
       is_bit (get_or t i 0) ≡ true → known' ≡ (known && is_definite (bit_of (get_or t i 0))) →
       number' ≡ min 65535 (2 * number + bit_number (bit_of (get_or t i 0))) → BitsTo known' number' (i + 1)
   unfolding with_bit
-  bits-more known number i known' number' o h k ek e =
+  bits_more known number i known' number' o h k ek e =
       let above = bit_range (get_or t i 0) k in
       record {
         inside = within_more t from i o.inside h (above_starts t i h above);
@@ -131,24 +131,24 @@ module _ (t : List ℕ) (from : ℕ) where
       }
 
   -- 0 and 1 leave the number known
-  pub ones-more :
+  pub ones_more :
       (number i number' : ℕ) → BitsTo true number i → i < length t → is_known (get_or t i 0) ≡ true →
       number' ≡ min 65535 (2 * number + bit_number (bit_of (get_or t i 0))) → BitsTo true number' (i + 1)
-  ones-more number i number' o h k e =
-      bits-more true number i true number' o h (known_bit (get_or t i 0) k) (sym (definite (get_or t i 0) ∙ k)) e
+  ones_more number i number' o h k e =
+      bits_more true number i true number' o h (known_bit (get_or t i 0) k) (sym (definite (get_or t i 0) ∙ k)) e
 
-  pub bits-all :
+  pub bits_all :
       (known : Bool) (number i : ℕ) → BitsTo known number i → word_from t i ≡ [] →
       (i ≡ from + length (word_from t from))
       × (more_bits (number_with true true false 0) (word_from t from) ≡ number_with true known false number)
-  bits-all known number i o e =
+  bits_all known number i o e =
       (within_all t from i o.inside e, sym o.bits ∙ ap (more_bits (number_with true known false number)) e)
 
-  pub bits-there :
+  pub bits_there :
       (b : Bits) (whole known : Bool) (number i : ℕ) → b ≡ bits_with whole known i number → BitsTo known number i →
       (whole ≡ true → word_from t i ≡ []) → BitsThere t from b
-  bits-there b whole known number i e o h =
-      rw e (record { end = λ f. (bits-all known number i o (h f)).0; number = λ f. (bits-all known number i o (h f)).1 })
+  bits_there b whole known number i e o h =
+      rw e (record { end = λ f. (bits_all known number i o (h f)).0; number = λ f. (bits_all known number i o (h f)).1 })
 
 -- ---- codes
 
@@ -191,10 +191,10 @@ module _ (t : List ℕ) (from : ℕ) where
       zero : from - from ≡ 0
       zero = omega arith
 
-  pub code-more :
+  pub code_more :
       (code i : ℕ) → CodeTo code i → i < length t → between 33 126 (get_or t i 0) ≡ true → code < 16777216 →
       CodeTo (code * 256 + get_or t i 0) (i + 1)
-  code-more code i o h k l =
+  code_more code i o h k l =
       let range = printable_range (get_or t i 0) k in
       let above : 32 < get_or t i 0 = omega (arith, range.0) in
       let more = word_more t i h above in
@@ -207,20 +207,20 @@ module _ (t : List ℕ) (from : ℕ) where
         spells = ap (λ (v : ℕ). numeral 256 v (word_from t (i + 1))) value ∙ sym (ap (numeral 256 code) more) ∙ o.spells;
       }
 
-  pub code-all :
+  pub code_all :
       (code i : ℕ) → CodeTo code i → word_from t i ≡ [] → 0 < code →
       (i ≡ from + length (word_from t from)) × (code ≡ code_of (word_from t from))
   unfolding code_of
-  code-all code i o e h =
-      let all-passed : i ≡ from + length (word_from t from) = within_all t from i o.inside e in
+  code_all code i o e h =
+      let all_passed : i ≡ from + length (word_from t from) = within_all t from i o.inside e in
       let count : i - from ≡ length (word_from t from) = omega arith in
       let some : between 1 4 (length (word_from t from)) ≡ true = rw (← count) (sized_some code (i - from) o.size h) in
       let bytes : all (between 33 126) (word_from t from) ≡ true = sym o.bytes ∙ ap (all (between 33 126)) e in
       let spells : code ≡ numeral 256 0 (word_from t from) = sym (ap (numeral 256 code) e) ∙ o.spells in
-      (all-passed, spells ∙ sym (ap (λ (x : Bool). cond x (numeral 256 0 (word_from t from)) 0) (and_in some bytes)))
+      (all_passed, spells ∙ sym (ap (λ (x : Bool). cond x (numeral 256 0 (word_from t from)) 0) (and_in some bytes)))
 
   pub code_there : (c : Coded) (code i : ℕ) → c ≡ coded_with i code → CodeTo code i → word_from t i ≡ [] → CodeThere t from c
-  code_there c code i e o h = rw e (record { end = λ f. (code-all code i o h f).0; code = λ f. (code-all code i o h f).1 })
+  code_there c code i e o h = rw e (record { end = λ f. (code_all code i o h f).0; code = λ f. (code_all code i o h f).1 })
 
   -- a code of one byte
   pub one_code :
@@ -229,7 +229,7 @@ module _ (t : List ℕ) (from : ℕ) where
   one_code c e h k over =
       let same : get_or t from 0 ≡ 0 * 256 + get_or t from 0 = omega arith in
       code_there c (0 * 256 + get_or t from 0) (from + 1) (e ∙ ap (coded_with (from + 1)) same)
-      (code-more 0 from code_none h k (omega arith)) over
+      (code_more 0 from code_none h k (omega arith)) over
 
   pub no_code : (c : Coded) (i : ℕ) → c ≡ coded_with i 0 → CodeThere t from c
   no_code c i e = rw e (record { end = λ f. absurd (omega arith); code = λ f. absurd (omega arith) })
@@ -246,10 +246,10 @@ module _ (t : List ℕ) (from : ℕ) where
   pub time_none : TimeTo 0 from
   time_none = record { inside = within_none t from; small = omega arith; digits = refl; spells = refl }
 
-  pub time-more :
+  pub time_more :
       (time i : ℕ) → TimeTo time i → i < length t → is_digit (get_or t i 0) ≡ true → time < 1844674407370955161 →
       TimeTo (time * 10 + (get_or t i 0 - 48)) (i + 1)
-  time-more time i o h k l =
+  time_more time i o h k l =
       let range = digit_range (get_or t i 0) k in
       let above : 32 < get_or t i 0 = omega (arith, range.0) in
       let more = word_more t i h above in
@@ -284,10 +284,10 @@ module _ (t : List ℕ) (from : ℕ) where
     pub time_fits : leb (decimal (word_from t from)) max_time ≡ true
     time_fits = rw (← time_same) (le-leb time max_time (omega (arith, o.small)))
 
-  pub time-there :
+  pub time_there :
       (a : Timed) (whole : Bool) (time i : ℕ) → a ≡ timed_with whole i time → TimeTo time i → from < i →
       (whole ≡ true → word_from t i ≡ []) → TimeThere t from a
-  time-there a whole time i e o l h =
+  time_there a whole time i e o l h =
       rw e
       (record {
         end = λ f. time_end time i o (h f);

@@ -1,7 +1,7 @@
 -- The word at an offset, told by its spelling. Assumes nothing.
 --   SpelledTo, spelled_none, spelled_more    the first bytes of the word are the first letters
---   spelled_past, spelled-other              the word ends before the letters do, or has another byte
---   spelled-all                              all letters are passed
+--   spelled_past, spelled_other              the word ends before the letters do, or has another byte
+--   spelled_all                              all letters are passed
 --   told_by                                  a word of this spelling passes a test
 use Prim.Native.Nat.{ℕ, ◌+◌, ◌<◌, ◌≤◌}
 use mathlib.Core.Path.{◌≡◌, refl, sym, ap, ◌∙◌}
@@ -36,9 +36,9 @@ module _ (t : List ℕ) (i c : ℕ) (cs : List ℕ) where
         go (on e) = rw (run_separator t i h e)
         go (off e) = rw (run_more t i h e, ne_eqb (get_or t i 0) c k)
 
-    letter-same :
+    letter_same :
         get_or t i 0 ≡ c → separator (get_or t i 0) ≡ false → same_bytes (word_from t i) (c ∷ cs) ≡ same_bytes (word_from t (i + 1)) cs
-    letter-same e s = rw (run_more t i h s, eq-eqb (get_or t i 0) c e)
+    letter_same e s = rw (run_more t i h s, eq-eqb (get_or t i 0) c e)
 
 -- ---- letter by letter
 
@@ -58,9 +58,9 @@ module _ (t : List ℕ) (from : ℕ) (letters : List ℕ) where
     rest_above : (ltb 32 (get_or letters j 0) && all (ltb 32) (drop (j + 1) letters)) ≡ true
     rest_above = sym (ap (all (ltb 32)) next_letter) ∙ o.above
 
-    rest-same :
+    rest_same :
         same_bytes (word_from t i) (get_or letters j 0 ∷ drop (j + 1) letters) ≡ same_bytes (word_from t from) letters
-    rest-same = sym (ap (same_bytes (word_from t i)) next_letter) ∙ o.same
+    rest_same = sym (ap (same_bytes (word_from t i)) next_letter) ∙ o.same
 
     pub spelled_more : i < length t → get_or t i 0 ≡ get_or letters j 0 → SpelledTo (i + 1) (j + 1)
     spelled_more h e =
@@ -70,28 +70,28 @@ module _ (t : List ℕ) (from : ℕ) (letters : List ℕ) where
         record {
           inside = within_more t from i o.inside h starts;
           above = and_r (ltb 32 (get_or letters j 0)) (all (ltb 32) (drop (j + 1) letters)) rest_above;
-          same = sym (letter-same t i (get_or letters j 0) (drop (j + 1) letters) h e starts) ∙ rest-same;
+          same = sym (letter_same t i (get_or letters j 0) (drop (j + 1) letters) h e starts) ∙ rest_same;
         }
 
     other : (e : Ended) → e ≡ ended_with false from → same_bytes (word_from t i) (get_or letters j 0 ∷ drop (j + 1) letters) ≡ false →
         Spelled t from letters e
-    other e q f = rw q (record { found = sym f ∙ rest-same; end = λ g. clash g refl })
+    other e q f = rw q (record { found = sym f ∙ rest_same; end = λ g. clash g refl })
 
     pub spelled_past : (e : Ended) → e ≡ ended_with false from → length t ≤ i → Spelled t from letters e
     spelled_past e q h = other e q (letter_past t i (get_or letters j 0) (drop (j + 1) letters) h)
 
-    pub spelled-other :
+    pub spelled_other :
         (e : Ended) → e ≡ ended_with false from → i < length t → (get_or t i 0 ≡ get_or letters j 0 → ⊥) → Spelled t from letters e
-    spelled-other e q h k = other e q (letter_other t i (get_or letters j 0) (drop (j + 1) letters) h k)
+    spelled_other e q h k = other e q (letter_other t i (get_or letters j 0) (drop (j + 1) letters) h k)
 
   none_left : (w : List ℕ) → is_empty w ≡ same_bytes w []
   none_left [] = refl
   none_left (b ∷ w) = refl
 
-  pub spelled-all :
+  pub spelled_all :
       (i j : ℕ) (e : Ended) (b : Bool) → e ≡ ended_with b i → SpelledTo i j → length letters ≤ j → b ≡ is_empty (word_from t i) →
       Spelled t from letters e
-  spelled-all i j e b q o l f =
+  spelled_all i j e b q o l f =
       rw q
       (record {
         found = f ∙ none_left (word_from t i) ∙ sym (ap (same_bytes (word_from t i)) (drop_of_length-le letters l)) ∙ o.same;

@@ -2,7 +2,7 @@
 --   above_separators         a byte above the space is no separator
 --   run_more, run_separator, run_end    a run of bytes, a byte at a time
 --   spells_none, spells_more  the bytes of a run, none spelled yet and one more
---   spells-all                the run is over
+--   spells_all                the run is over
 use Prim.Native.Nat.{ℕ, ◌+◌, ◌*◌, ◌/◌, ◌%◌, ◌<◌, ◌≤◌}
 use mathlib.Core.Path.{◌≡◌, refl, sym, ap, ◌∙◌}
 use mathlib.Core.List.{List, [], ◌∷◌}
@@ -92,8 +92,8 @@ module _ (t : List ℕ) (from high low : ℕ) where
       }
 
   -- the run is over
-  pub spells-all :
+  pub spells_all :
       (i h l : ℕ) → Spells t from high low i h l → run (drop i t) ≡ [] →
       (i ≡ from + length (run (drop from t))) × (h ≡ spell_high high low (run (drop from t))) × (l ≡ spell_low low (run (drop from t)))
-  spells-all i h l s e =
+  spells_all i h l s e =
       (omega (arith, ap length e, s.end), sym (ap (spell_high h l) e) ∙ s.highs, sym (ap (spell_low l) e) ∙ s.lows)

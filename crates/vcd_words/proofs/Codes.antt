@@ -1,5 +1,5 @@
 -- The code that a word's last bytes spell, length by length. Assumes nothing.
---   code_one .. code-four    a code of one to four bytes
+--   code_one .. code_four    a code of one to four bytes
 --   code_other               no byte, or more than four: no code
 --   code_zero, code_some     a word that is no code, and one that is
 use Prim.Native.Nat.{ℕ, ◌+◌, ◌*◌, ◌/◌, ◌%◌, ◌<◌, ◌≤◌}
@@ -30,30 +30,30 @@ module _ (low before : ℕ) where
       rw ea (ap (λ (x : ℕ). cond (between 33 126 a && true) x 0) en)
   code_one (a ∷ b ∷ u) n s e = absurd (omega arith)
 
-  pub code-two :
+  pub code_two :
       (u : List ℕ) → length u ≡ 2 → small u ≡ true → low ≡ numeral 256 before u →
       cond (between 33 126 (low / 256 % 256) && (between 33 126 (low % 256) && true)) (low % 65536) 0 ≡ code_of u
   unfolding code_of
-  code-two [] n s e = absurd (omega arith)
-  code-two (a ∷ []) n s e = absurd (omega arith)
-  code-two (a ∷ b ∷ []) n s e =
+  code_two [] n s e = absurd (omega arith)
+  code_two (a ∷ []) n s e = absurd (omega arith)
+  code_two (a ∷ b ∷ []) n s e =
       let ha : a < 256 = head_small a (b ∷ []) s in
       let hb : b < 256 = head_small b [] (tail_small a (b ∷ []) s) in
       let ea : low / 256 % 256 ≡ a = omega arith in
       let eb : low % 256 ≡ b = omega arith in
       let en : low % 65536 ≡ 256 * (256 * 0 + a) + b = omega arith in
       rw (ea, eb, en)
-  code-two (a ∷ b ∷ c ∷ u) n s e = absurd (omega arith)
+  code_two (a ∷ b ∷ c ∷ u) n s e = absurd (omega arith)
 
-  pub code-three :
+  pub code_three :
       (u : List ℕ) → length u ≡ 3 → small u ≡ true → low ≡ numeral 256 before u →
       cond (between 33 126 (low / 65536 % 256) && (between 33 126 (low / 256 % 256) && (between 33 126 (low % 256) && true)))
       (low % 16777216) 0 ≡ code_of u
   unfolding code_of
-  code-three [] k s e = absurd (omega arith)
-  code-three (a ∷ []) k s e = absurd (omega arith)
-  code-three (a ∷ b ∷ []) k s e = absurd (omega arith)
-  code-three (a ∷ b ∷ c ∷ []) k s e =
+  code_three [] k s e = absurd (omega arith)
+  code_three (a ∷ []) k s e = absurd (omega arith)
+  code_three (a ∷ b ∷ []) k s e = absurd (omega arith)
+  code_three (a ∷ b ∷ c ∷ []) k s e =
       let ha : a < 256 = head_small a (b ∷ c ∷ []) s in
       let hb : b < 256 = head_small b (c ∷ []) (tail_small a (b ∷ c ∷ []) s) in
       let hc : c < 256 = head_small c [] (tail_small b (c ∷ []) (tail_small a (b ∷ c ∷ []) s)) in
@@ -62,20 +62,20 @@ module _ (low before : ℕ) where
       let ec : low % 256 ≡ c = omega arith in
       let en : low % 16777216 ≡ 256 * (256 * (256 * 0 + a) + b) + c = omega arith in
       rw (ea, eb, ec, en)
-  code-three (a ∷ b ∷ c ∷ d ∷ u) k s e = absurd (omega arith)
+  code_three (a ∷ b ∷ c ∷ d ∷ u) k s e = absurd (omega arith)
 
-  pub code-four :
+  pub code_four :
       (u : List ℕ) → length u ≡ 4 → small u ≡ true → low ≡ numeral 256 before u →
       cond
       (between 33 126 (low / 16777216 % 256)
       && (between 33 126 (low / 65536 % 256) && (between 33 126 (low / 256 % 256) && (between 33 126 (low % 256) && true))))
       (low % 4294967296) 0 ≡ code_of u
   unfolding code_of
-  code-four [] k s e = absurd (omega arith)
-  code-four (a ∷ []) k s e = absurd (omega arith)
-  code-four (a ∷ b ∷ []) k s e = absurd (omega arith)
-  code-four (a ∷ b ∷ c ∷ []) k s e = absurd (omega arith)
-  code-four (a ∷ b ∷ c ∷ d ∷ []) k s e =
+  code_four [] k s e = absurd (omega arith)
+  code_four (a ∷ []) k s e = absurd (omega arith)
+  code_four (a ∷ b ∷ []) k s e = absurd (omega arith)
+  code_four (a ∷ b ∷ c ∷ []) k s e = absurd (omega arith)
+  code_four (a ∷ b ∷ c ∷ d ∷ []) k s e =
       let ha : a < 256 = head_small a (b ∷ c ∷ d ∷ []) s in
       let hb : b < 256 = head_small b (c ∷ d ∷ []) (tail_small a (b ∷ c ∷ d ∷ []) s) in
       let hc : c < 256 = head_small c (d ∷ []) (tail_small b (c ∷ d ∷ []) (tail_small a (b ∷ c ∷ d ∷ []) s)) in
@@ -86,7 +86,7 @@ module _ (low before : ℕ) where
       let ed : low % 256 ≡ d = omega arith in
       let en : low % 4294967296 ≡ 256 * (256 * (256 * (256 * 0 + a) + b) + c) + d = omega arith in
       rw (ea, eb, ec, ed, en)
-  code-four (a ∷ b ∷ c ∷ d ∷ e ∷ u) k s f = absurd (omega arith)
+  code_four (a ∷ b ∷ c ∷ d ∷ e ∷ u) k s f = absurd (omega arith)
 
 code_none : (u : List ℕ) → length u ≡ 0 → 0 ≡ code_of u
 unfolding code_of

@@ -13,7 +13,7 @@ use Rattle.vcd_words.specs.declared.Partial.{Partial}
 use Rattle.vcd_words.specs.declared.Spelling.{Spelling}
 use Rattle.vcd_words.specs.declared.Keyword.{Keyword}
 use Rattle.vcd_words.specs.Partial.{spell_high, spell_low, begun_with, counted_of, extended_by, partial_of, Keeps, spelling_of, text_of}
-use Rattle.vcd_words.proofs.Spells.{other_length, other_low, same-spelling, keyword_small, keyword_short}
+use Rattle.vcd_words.proofs.Spells.{other_length, other_low, same_spelling, keyword_small, keyword_short}
 
 module _ {p : Partial} {w : List ℕ} (k : Keeps p w) where
   pub kept_length : p.length ≡ min 256 (length w)
@@ -73,5 +73,5 @@ module _ {p : Partial} {w : List ℕ} (k : Keeps p w) where
     says_high f g =
         rw (kept_high, ap (λ (x : Spelling). x.high) e)
         (sym
-        (same-spelling w (bytes_of (text_of word)) k.small (keyword_small word) (keyword_short word)
+        (same_spelling w (bytes_of (text_of word)) k.small (keyword_small word) (keyword_short word)
         (sym kept_length ∙ f ∙ ap (λ (x : Spelling). x.length) e) (sym kept_low ∙ g ∙ ap (λ (x : Spelling). x.low) e)))

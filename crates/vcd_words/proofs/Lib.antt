@@ -6,4 +6,3 @@ pub mod Keeping
 pub mod Codes
 pub mod Sums
 pub mod Telling
-pub mod Asked

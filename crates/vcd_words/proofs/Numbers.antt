@@ -2,8 +2,8 @@
 --   digit_range                  the bytes that are digits
 --   between_more, between_end    the bytes from i on: the one at i and the rest; none
 --   digits_more, digits_stop     a digit more; a byte that is none
---   bits-more, bits_stop         the same of bits
---   scan-first, scan-more        a run of bytes that begins a word, or goes on with one
+--   bits_more, bits_stop         the same of bits
+--   scan_first, scan_more        a run of bytes that begins a word, or goes on with one
 use Prim.Native.Nat.{ℕ, suc, ◌+◌, ◌*◌, ◌-◌, ◌<◌, ◌≤◌, min}
 use mathlib.Core.Path.{◌≡◌, refl, sym, ap, ◌∙◌}
 use mathlib.Core.List.{List, [], ◌∷◌}
@@ -47,12 +47,12 @@ module _ (t : List ℕ) (i end : ℕ) (h : i < end) (k : end ≤ length t) (n : 
   pub digits_stop : is_digit (get_or t i 0) ≡ false → not_number ≡ more_digits n (between t i end)
   digits_stop e = sym (ap (more_digits n) (between_more t i end h k) ∙ rw e)
 
-  pub bits-more :
+  pub bits_more :
       (value : ℕ) (known : Bool) → is_bit (get_or t i 0) ≡ true → known ≡ (n.known && is_definite (bit_of (get_or t i 0))) →
       value ≡ min 65535 (2 * n.value + bit_number (bit_of (get_or t i 0))) →
       more_bits (number_with n.whole known n.over value) (between t (i + 1) end) ≡ more_bits n (between t i end)
   unfolding with_bit
-  bits-more value known e ek ev = sym (ap (more_bits n) (between_more t i end h k) ∙ rw (e, ek, ev))
+  bits_more value known e ek ev = sym (ap (more_bits n) (between_more t i end h k) ∙ rw (e, ek, ev))
 
   pub bits_stop : is_bit (get_or t i 0) ≡ false → not_number ≡ more_bits n (between t i end)
   bits_stop e = sym (ap (more_bits n) (between_more t i end h k) ∙ rw e)
@@ -92,18 +92,18 @@ module _ (t : List ℕ) (from end : ℕ) (e : end ≡ from + length (run (drop f
   run_length : end - from ≡ suc (length (between t (from + 1) end))
   run_length = omega (arith, ap length run_parts)
 
-  pub scan-first :
+  pub scan_first :
       (p : Partial) → p.length ≡ 0 →
       partial_with (min 256 (p.length + (end - from))) (get_or t from 0) (spell_high p.high p.low (run (drop from t)))
       (spell_low p.low (run (drop from t))) (counted_of (get_or t from 0) (begun_with (get_or t from 0)) (between t (from + 1) end))
       ≡ extended_by p (run (drop from t))
   unfolding extended_by
-  scan-first p k = rw (run_length, run_parts, eq-eqb p.length 0 k)
+  scan_first p k = rw (run_length, run_parts, eq-eqb p.length 0 k)
 
-  pub scan-more :
+  pub scan_more :
       (p : Partial) → (p.length ≡ 0 → ⊥) →
       partial_with (min 256 (p.length + (end - from))) p.first (spell_high p.high p.low (run (drop from t)))
       (spell_low p.low (run (drop from t))) (counted_of p.first p.number (between t from end))
       ≡ extended_by p (run (drop from t))
   unfolding extended_by
-  scan-more p k = rw (run_between, run_length, run_parts, ne_eqb p.length 0 k)
+  scan_more p k = rw (run_between, run_length, run_parts, ne_eqb p.length 0 k)

@@ -1,5 +1,5 @@
 -- A word is told by its length and the numbers that its last sixteen bytes spell, if it has no more. Assumes nothing.
---   same-spelling    two words of bytes, one of at most sixteen, are the same exactly if these are
+--   same_spelling    two words of bytes, one of at most sixteen, are the same exactly if these are
 --   keyword_small, keyword_short    every keyword is such a word
 use Prim.Native.Nat.{ℕ, suc, ◌+◌, ◌*◌, ◌/◌, ◌%◌, ◌^◌, ◌<◌, ◌≤◌, min}
 use mathlib.Core.Path.{◌≡◌, refl, sym, ap, ap₂, ◌∙◌}
@@ -126,10 +126,10 @@ module _ (w k : List ℕ) where
   pub other_low : (spell_low 0 w ≡ spell_low 0 k → ⊥) → same_bytes w k ≡ false
   other_low h = refuted (same_bytes w k) (λ e. h (ap (spell_low 0) (same_eq w k e)))
 
-  pub same-spelling :
+  pub same_spelling :
       small w ≡ true → small k ≡ true → length k ≤ 16 → min 256 (length w) ≡ length k → spell_low 0 w ≡ spell_low 0 k →
       same_bytes w k ≡ eqb (spell_high 0 0 w) (spell_high 0 0 k)
-  same-spelling sw sk short lengths lows = go (flag (eqb (spell_high 0 0 w) (spell_high 0 0 k)))
+  same_spelling sw sk short lengths lows = go (flag (eqb (spell_high 0 0 w) (spell_high 0 0 k)))
     where
       go : Flag (eqb (spell_high 0 0 w) (spell_high 0 0 k)) → same_bytes w k ≡ eqb (spell_high 0 0 w) (spell_high 0 0 k)
       go (on e) =

@@ -1,7 +1,7 @@
 -- What the call answers, from what its tests say. Assumes nothing.
 --   write_unreadable                        the bytes are no run
 --   too_many, too_large, too_long           of a run that can't be written
---   write-all                               the text is written
+--   write_all                               the text is written
 use Prim.Native.Nat.{ℕ, ◌*◌, ◌/◌, ◌<◌, ◌≤◌}
 use mathlib.Core.Path.{◌≡◌, refl, ap, ◌∙◌}
 use mathlib.Core.List.{List, ◌++◌}
@@ -34,29 +34,29 @@ module _ (list text : List ℕ) where
     unfolding written text_to
     written_is = ap (λ (l : List ℕ). definition_text narrow ++ l) (run_text list run)
 
-    can-write-is :
+    can_write_is :
         can_write (commands_in list) text ≡
         leb n max_commands && every n (fits_at list) && leb (length (text_to list n)) (length text)
-    can-write-is = rw (run_count list run, run_fit list run, written_is)
+    can_write_is = rw (run_count list run, run_fit list run, written_is)
 
     refused : can_write (commands_in list) text ≡ false → DoesWrite not_writable text (write_call list text)
     unfolding write_call
     refused e = rw (run, e) (refl, refl)
 
     pub too_many : max_commands < n → DoesWrite not_writable text (write_call list text)
-    too_many h = refused (can-write-is ∙ rw (lt-leb n max_commands h))
+    too_many h = refused (can_write_is ∙ rw (lt-leb n max_commands h))
 
     pub too_large : every n (fits_at list) ≡ false → DoesWrite not_writable text (write_call list text)
-    too_large e = refused (can-write-is ∙ simp (e, and-false))
+    too_large e = refused (can_write_is ∙ simp (e, and-false))
 
     pub too_long : length text < length (text_to list n) → DoesWrite not_writable text (write_call list text)
-    too_long h = refused (can-write-is ∙ simp (lt-leb _ _ h, and-false))
+    too_long h = refused (can_write_is ∙ simp (lt-leb _ _ h, and-false))
 
-    pub write-all :
+    pub write_all :
         {r size : ℕ} {text' : List ℕ} → n ≤ max_commands → every n (fits_at list) ≡ true → size ≡ length (text_to list n) →
         size ≤ length text → r ≡ 256 * size → text' ≡ sets text 0 (text_to list n) → DoesWrite r text' (write_call list text)
     unfolding write_call
-    write-all {r} {size} few fit size_is room er et =
+    write_all {r} {size} few fit size_is room er et =
         let long : length (text_to list n) ≤ length text = omega arith in
-        let can = can-write-is ∙ and_in (and_in (le-leb _ _ few) fit) (le-leb _ _ long) in
+        let can = can_write_is ∙ and_in (and_in (le-leb _ _ few) fit) (le-leb _ _ long) in
         rw (run, can, written_is) (omega arith, et)

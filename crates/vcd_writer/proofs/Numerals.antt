@@ -2,7 +2,7 @@
 --   DigitsTo                        some are put up to an offset; those of the rest, put before them, give the whole
 --   digits_none, digits_one         none is put; one more is
 --   digits_above                    there is a byte before each
---   digits-end                      one is left: with it and a mark before it all is put
+--   digits_end                      one is left: with it and a mark before it all is put
 --   CountedTo, counted_none, ..     the same of their count
 use Prim.Native.Nat.{ℕ, suc, ◌+◌, ◌-◌, ◌/◌, ◌%◌, ◌<◌, ◌≤◌}
 use mathlib.Core.Path.{◌≡◌, refl, sym, ap, ◌∙◌}
@@ -65,9 +65,9 @@ module _ (base x mark : ℕ) (b₀ : List ℕ) (end : ℕ) where
               ∙ ap (sets b start) (sym parts) ∙ h.stored;
         }
 
-    pub digits-end :
+    pub digits_end :
         {b₂ : List ℕ} → rest < base → b₁ ≡ set b at (digit_byte rest) → b₂ ≡ set b₁ (at - 1) mark → Put b₀ end (mark ∷ all) (at - 1) b₂
-    digits-end few e₁ e₂ =
+    digits_end few e₁ e₂ =
         let one = numeral_small base two rest few in
         let there : at ≡ start = omega (arith, ap length one, h.place) in
         let digits-put : b₁ ≡ sets b₀ at all

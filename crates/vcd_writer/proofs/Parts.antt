@@ -1,5 +1,5 @@
 -- Lines put from their ends, and their lengths. Assumes nothing.
---   vector_ending, vector_digits, vector-put     a vector: room for its last bytes, then for its digits; both are put
+--   vector_ending, vector_digits, vector_put     a vector: room for its last bytes, then for its digits; both are put
 --   time_digits, time_put                        a time: its newline is put, then its digits
 --   value_room, value_put                        a value's line before what is put
 --   core_left, values_left, ..                   room for the values, for the lines, from one of them on
@@ -42,9 +42,9 @@ module _ (code x : ℕ) where
     pub vector_digits : {at : ℕ} {b₁ : List ℕ} → Put b end ending at b₁ → Room marked at b₁
     vector_digits p = room_first marked ending parted p
 
-    pub vector-put :
+    pub vector_put :
         {at start : ℕ} {b₁ b₂ : List ℕ} → Put b end ending at b₁ → Put b₁ at marked start b₂ → Put b end (vector_of code x) start b₂
-    vector-put p q = rw vector_parts (put_before p q)
+    vector_put p q = rw vector_parts (put_before p q)
 
 -- ---- a time
 

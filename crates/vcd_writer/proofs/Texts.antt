@@ -1,7 +1,7 @@
 -- The text of a row of commands, by the numbers in its bytes, a command at a time. Assumes nothing.
 --   fit_placed, lines_placed                       of a command whose words are read
 --   FitTo, fit_none, fit_one, fit_not, fit_all     the values of the first commands fit: none, one more, one that doesn't, all
---   MeasuredTo, measured_none, measured-one        the length of the text of the first commands
+--   MeasuredTo, measured_none, measured_one        the length of the text of the first commands
 --   WrittenFrom                                    the text from a command on is written: the text before it, written too, gives the whole
 --   written_none, written_room, written_one        nothing is written; there is room for one more command; it is written
 --   written_first, written_all                     only the definitions are left: there is room for them; they are written
@@ -82,9 +82,9 @@ module _ (list : List ℕ) where
   unfolding text_to gather definition_text joined digits
   measured_none = record { size = refl; most = omega arith }
 
-  pub measured-one :
+  pub measured_one :
       {k sum r : ℕ} → MeasuredTo k sum → r ≡ length (lines_at list k) → r < 2 ^ 20 → MeasuredTo (k + 1) (sum + r)
-  measured-one {k} {sum} {r} h e few =
+  measured_one {k} {sum} {r} h e few =
       record {
         size = rw add-one (omega (arith, h.size, text_more_length list k));
         most = omega (arith, h.most);

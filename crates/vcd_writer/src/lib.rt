@@ -105,8 +105,7 @@ fn put_text(list: &[u8], count: usize, text: &mut [u8], size: usize)
 // The text of a run, commands of five bytes each, in the front of the lent buffer: 0 and 256 times its length. A list that isn't a run is
 // 255. Over 65,535 commands, a used value too large for its variable, or a text longer than the buffer is 15. Then the buffer stays as it
 // was.
-#[unsafe(no_mangle)]
-pub extern "C" fn psic_write(list: &[u8], text: &mut [u8]) -> u64
+pub fn psic_write(list: &[u8], text: &mut [u8]) -> u64
     ensures { DoesWrite result text.new (write_call list.now text.old) }
 {
     if !is_run(list) {

@@ -5,8 +5,7 @@ ghost use Rattle.std.specs.Prelude.{◌≡◌};
 ghost use Rattle.version.specs.Version.{version_of};
 
 // The version, as the header's PSIC_VERSION writes it.
-#[unsafe(no_mangle)]
-pub extern "C" fn psic_version() -> u32
+pub fn psic_version() -> u32
     ensures { result ≡ version_of 4 0 0 }
 {
     40000

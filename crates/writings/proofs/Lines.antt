@@ -75,6 +75,7 @@ module _ (f : Form) (h : Held) (stb : Value) (stamp : Stamp) (taken : ℕ) where
       read_word (reader_in f BodyCode (held_with v h.cmd h.core h.arg h.prio) stb stamp taken) (word_with at (code_byte s ∷ [])) ≡
       only (reader_in f Body (given s v h) stb stamp taken)
   unfolding read_word read_at read_vector_code code_of
+  code_read Stb k v fits at = elim k [ ]
   code_read Cmd of_cmd v fits at = rw fits
   code_read Core of_core v fits at = rw fits
   code_read Arg of_arg v fits at = rw fits

@@ -1,0 +1,12 @@
+-- `in_place::put_back` meets its contract: a filled box names a source, which is written with its mark off. Assumes nothing.
+use Prim.Native.Nat.{◌≤◌}
+use Rattle.std.proofs.Common.{arith}
+use Rattle.model.specs.Records.{max_sources}
+use Rattle.in_place.proofs.Stored.{back_empty, back_filled}
+use Rattle.in_place.proofs.put_back.Goals as goal
+
+pub returns-then-c : goal.returns-then-c
+returns-then-c c =
+    λ s keys h.
+    back_filled h c.args.c.message c.requires.1 c.if-c.true c.source_at-r.ensures c.with_delivered.ensures
+    c.put_source.ensures.0 c.put_source.ensures.1

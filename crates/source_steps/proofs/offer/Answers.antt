@@ -1,0 +1,31 @@
+-- `source_steps::offer` meets its contract: the two numbers tell whether the definition delivers. Assumes nothing.
+use Rattle.std.proofs.Common.{arith}
+use Rattle.in_place.proofs.Stored.{held_length}
+use Rattle.source_steps.proofs.Offering.{core_fits, names_one, offer_none, offer_rests, offer_delivers}
+use Rattle.std.proofs.Common.{rules}
+use Rattle.source_steps.proofs.offer.Goals as goal
+
+pub returns-then-priority_of-current_of : goal.returns-then-priority_of-current_of
+returns-then-priority_of-current_of c =
+    offer_rests c.requires c.lowest-key.ensures c.priority_of.ensures
+    c.current_of.ensures (omega (arith, c.if-priority_of-current_of.true)) c.answered-then-priority_of-current_of.ensures
+
+pub core_at-c-requires : goal.core_at-c-requires
+core_at-c-requires c =
+    let given = c.requires in
+    (held_length given.held, core_fits given c.lowest-key.ensures c.core_of-k.ensures)
+
+pub deliver-requires : goal.deliver-requires
+deliver-requires c =
+    let given = c.requires in (
+      held_length given.held,
+      search rules,
+      core_fits given c.lowest-key.ensures c.core_of-k.ensures,
+      names_one given c.lowest-key.ensures c.core_of-k.ensures c.core_at-c.ensures,
+    )
+
+pub returns : goal.returns
+returns c =
+    offer_delivers c.requires c.lowest-key.ensures c.core_of-k.ensures
+    c.core_at-c.ensures c.priority_of.ensures c.current_of.ensures (omega (arith, c.if-priority_of-current_of.false))
+    c.deliver.ensures c.answered-2.ensures

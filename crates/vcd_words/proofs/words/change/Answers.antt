@@ -1,0 +1,34 @@
+-- `vcd_words::words::change` meets its contract. Assumes nothing.
+use mathlib.Core.Path.{sym, ◌∙◌}
+use Rattle.recording.specs.Reading.{read_change}
+use Rattle.vcd_words.proofs.Keeping.{kept_first}
+use Rattle.vcd_words.proofs.words.change.Goals as goal
+
+pub returns-then-is_vector : goal.returns-then-is_vector
+unfolding read_change
+returns-then-is_vector c =
+    λ w k.
+    let vector = sym (c.is_vector.ensures w k) ∙ c.if-is_vector.true in
+    rw (c.at.ensures, c.with_vector.ensures, c.vector.ensures w k vector, vector)
+
+pub returns-then-is_scalar : goal.returns-then-is_scalar
+unfolding read_change
+returns-then-is_scalar c =
+    λ w k.
+    rw (
+      c.at-then-is_scalar.ensures,
+      c.with_value.ensures,
+      c.bit_value.ensures,
+      sym (c.is_vector.ensures w k) ∙ c.if-is_vector.false,
+      sym (c.is_scalar.ensures w k) ∙ c.if-is_scalar.true,
+      kept_first k,
+    )
+
+pub returns : goal.returns
+unfolding read_change
+returns c = λ w k.
+    rw (
+      c.refused.ensures,
+      sym (c.is_vector.ensures w k) ∙ c.if-is_vector.false,
+      sym (c.is_scalar.ensures w k) ∙ c.if-is_scalar.false,
+    )
