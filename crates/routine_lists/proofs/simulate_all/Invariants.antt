@@ -1,27 +1,19 @@
 -- `routine_lists::simulate_all` meets its contract. The loop's invariant is `RunTo`: the calls before i are taken, and what is left of the
 -- list ends as the whole does from the start; and the simulation in memory can go on. The measure is what is left of the length. Assumes
 -- nothing.
-use Prim.Native.Nat.{ℕ, ◌-◌, ◌<◌, ◌≤◌}
-use lib.ListN.{length, get_or}
-use Rattle.std.proofs.Common.{arith}
-use mathlib.Core.Path.{◌≡◌, refl, sym, ap, ◌∙◌}
-use mathlib.Core.Logic.{⊎_elim}
-use mathlib.Core.Bool.{true}
-use Rattle.model.specs.Records.{max_sources, max_cores}
-use Rattle.layout.specs.Bytes.{is_state, room_for}
-use Rattle.layout.proofs.RoundTrip.{state_size_lem}
-use Rattle.layout.proofs.Fives.{fives_read}
-use Rattle.layout.proofs.Lists.{RunTo, more_left, run_end, run_stop}
-use Rattle.routines.specs.Calls.{one_call, routines_in, is_simulation, table_size, table_in}
+use Prim.Native.Nat.{◌-◌}
+use lib.ListN.{length}
+use Rattle.layout.proofs.Lists.{RunTo}
+use Rattle.routines.specs.Calls.{routines_in, table_in}
 use Rattle.routine_laws.proofs.Called.{counting, routines_machine}
 use Rattle.routine_steps.specs.Simulated.{Running}
-use Rattle.routine_test.proofs.Encoded.{encoded}
-use Rattle.routine_lists.proofs.Simulating.{read_call, fit, kept_by, raised_by, count_fits, simulate_none, simulate_more}
-use Rattle.routine_lists.proofs.Simulating.{simulate_done}
+use Rattle.routine_lists.proofs.Simulating.{read_call}
 use Rattle.routine_lists.proofs.simulate_all.Given as goal
 
 abbrev pub invariant-loop-i : goal.invariant-loop-i
-invariant-loop-i l = RunTo read_call routines_machine l.list l.initial.answers (counting (routines_in l.initial.state l.initial.active l.initial.holder) (table_in l.table)) l.answers
+invariant-loop-i l =
+    RunTo read_call routines_machine l.list l.initial.answers
+    (counting (routines_in l.initial.state l.initial.active l.initial.holder) (table_in l.table)) l.answers
     (counting (routines_in l.state l.active l.holder) l.counts) l.i × Running l.sound l.state l.active l.holder l.keys l.ranks
 
 abbrev pub decreases-loop-i : goal.decreases-loop-i
