@@ -55,7 +55,7 @@ module _ (s : Controller) (w : WellFormed s) (k : CoreId) (k_lt : k.0 < s.m) (fi
       still after
       (effect_begins s w (OnCore k Claim) (k_lt, filled)).consistent
       (claimed_delivering s old k.0 k_lt filled (well_formed-delivering s w))
-      (λ i j i_lt j-lt e. rw (current_same s old k.0 k_lt filled j) (w.quiet.candidates_settled_lem i j i_lt j-lt e))
+      (λ i j i_lt j-lt e. rw (current_same s old k.0 k_lt filled j) (w.quiet.candidates_below i j i_lt j-lt e))
 
   pub claim_answer : execute s (OnCore k Claim) ≡ answer after 0 (core_at s k.0).message.source.0 0
   unfolding effect answered_id

@@ -101,11 +101,11 @@ module _ (s : Controller) (w : WellFormed s) (i : ℕ) (i_lt : i < s.n) where
         clean = w.clean;
         quiet =
             record {
-              candidates_settled_lem =
+              candidates_below =
                   λ j k j-lt k_lt is.
                   rw (one_read (λ (r : Source). r.priority) (λ x r. refl) s i j)
-                  (w.quiet.candidates_settled_lem j k j-lt k_lt (sym (one_read candidate (λ x r. refl) s i j) ∙ is));
-              covered_settled_lem = w.quiet.covered_settled_lem;
+                  (w.quiet.candidates_below j k j-lt k_lt (sym (one_read candidate (λ x r. refl) s i j) ∙ is));
+              covered_below = w.quiet.covered_below;
             };
         frugal = w.frugal;
       }

@@ -36,7 +36,7 @@ effect_m s o = (effect_sizes s o).1
 
 module _ (s : Controller) (w : WellFormed s) where
   pub well_formed-delivering : Delivering s
-  well_formed-delivering = record { clean = w.clean; covered = w.quiet.covered_settled_lem }
+  well_formed-delivering = record { clean = w.clean; covered = w.quiet.covered_below }
 
 -- ---- the effects
 
@@ -65,7 +65,7 @@ module _ (s : Controller) (w : WellFormed s) where
       let i_lt : index_of id < s.n = named_index s id h in
       record {
         consistent = with_source-consistent s old (index_of id) i_lt _ (source_replaces (index_of id) i_lt a g);
-        phase = delivering (record { clean = w.clean; covered = w.quiet.covered_settled_lem });
+        phase = delivering (record { clean = w.clean; covered = w.quiet.covered_below });
         spared = λ clean. w.frugal;
       }
 

@@ -55,7 +55,7 @@ module _ (e : Controller) (done : Settles e) (f : ℕ) (more : 2 * e.m ≤ f) wh
       record {
         same_state = settle_beyond e (2 * e.m) done.rests f more;
         same_count = omega (arith, same is_retraction refl, same is_delivery refl);
-        at_rest = record { rests = done.rests; clean = done.strict.clean; none_above = done.strict.quiet.candidates_settled_lem };
+        at_rest = record { rests = done.rests; clean = done.strict.clean; none_above = done.strict.quiet.candidates_below };
         retractions_le = omega (arith, same is_retraction refl, done.retractions);
         deliveries_le = omega (arith, same is_delivery refl, done.deliveries);
       }

@@ -176,7 +176,7 @@ one_delivery s id a r =
     let fits : index_of id < length s.sources = omega (arith, w.consistent.sources_length, w.consistent.n_le) in
     let others : Others (effect s (OnSource id a)) (index_of id) =
     λ j k j-lt k_lt p. read_set (λ q. candidate q ≡ true → q.priority ≤ current_priority (core_at s k)) s.sources (index_of id) j
-    (source_after a (source_at s (index_of id))) no_source fits (λ e. absurd (p e)) (λ q. w.quiet.candidates_settled_lem j k j-lt k_lt) in
+    (source_after a (source_at s (index_of id))) no_source fits (λ e. absurd (p e)) (λ q. w.quiet.candidates_below j k j-lt k_lt) in
     execute_accepted s (OnSource id a) r ∙
-    once (effect s (OnSource id a)) begun.consistent (record { clean = w.clean; covered = w.quiet.covered_settled_lem }) (index_of id) i_lt
+    once (effect s (OnSource id a)) begun.consistent (record { clean = w.clean; covered = w.quiet.covered_below }) (index_of id) i_lt
     others

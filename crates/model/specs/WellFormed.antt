@@ -157,8 +157,8 @@ NoneAbove s =
     (i k : ℕ) → i < s.n → k < s.m → candidate (source_at s i) ≡ true → (source_at s i).priority ≤ current_priority (core_at s k)
 
 pub record Quiet (s : Controller) : Type 0 where
-  pub candidates_settled_lem : NoneAbove s
-  pub covered_settled_lem :
+  pub candidates_below : NoneAbove s
+  pub covered_below :
       (j k : ℕ) → j < s.m → k < s.m → (core_at s j).message.filled ≡ true → (core_at s j).configured ≤ current_priority (core_at s k)
 
 abbrev pub Frugal : Controller → Type 0

@@ -1,5 +1,5 @@
 -- The worked texts in chunks and the worked words hold of the definitions, each list by one computation. Assumes nothing.
-use mathlib.Core.Path.{◌≡◌, refl}
+use mathlib.Core.Path.{refl}
 use Rattle.layout.specs.BytesCases.{times}
 use Rattle.recording.specs.Chunks.{kept_with, kept_after, closing, take_byte, feed, feed_all, end_text, chunked}
 use Rattle.recording.specs.Texts.{trigger4, definitions}

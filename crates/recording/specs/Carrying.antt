@@ -6,7 +6,7 @@
 --   is_carried b       b encodes what is carried: its length is right, the place is one, flags are flags, and the word is no longer than it
 --                     may be and has no separator; every such state is answered, also one that no text leads to
 --   carried_from b     what it is
-use Rattle.std.specs.Prelude.{ℕ, zero, suc, ◌+◌, ◌*◌, ◌-◌, ◌/◌, ◌%◌, List, [], ◌∷◌, ◌++◌, Bool, true, not, ◌&&◌, cond, length, get_or, take, drop, replicate, leb, eqb}
+use Rattle.std.specs.Prelude.{ℕ, zero, suc, ◌+◌, ◌*◌, ◌-◌, ◌/◌, ◌%◌, List, [], ◌∷◌, ◌++◌, Bool, not, ◌&&◌, length, get_or, take, drop, replicate, leb, eqb}
 use Rattle.layout.specs.Bytes.{word, flag_byte, word_at, flag_at, is_flag_at}
 use Rattle.recording.specs.declared.Place.{Place}
 use Rattle.recording.specs.declared.Place.TheVariants.{Definition, SkipDefinition, Wire, Width, Code, Name, VarEnd, DefinitionsEnd}

@@ -1,15 +1,14 @@
 -- What is claimed of texts in chunks. Propositions only. Assumes nothing.
 -- Source: document 02, 8/14, in its order.
-use Rattle.std.specs.Prelude.{ℕ, ◌-◌, ◌^◌, ◌<◌, ◌≤◌, ◌≡◌, List, [], ◌∷◌, ◌++◌, true, false, not, ◌&&◌, cond, length, ltb}
+use Rattle.std.specs.Prelude.{ℕ, ◌-◌, ◌^◌, ◌<◌, ◌≤◌, ◌≡◌, List, [], ◌∷◌, true, false, not, ◌&&◌, length, ltb}
 use Rattle.lists.specs.Rows.{joined}
 use Rattle.layout.specs.Statements.{AreBytes}
-use Rattle.model.specs.declared.Command.{Command}
 use Rattle.recording.specs.declared.Signal.{Signal}
 use Rattle.recording.specs.declared.Variable.{Variable}
 use Rattle.recording.specs.declared.Reader.{Reader}
 use Rattle.recording.specs.Words.{all, separator, word_with}
 use Rattle.recording.specs.Records.{variable}
-use Rattle.recording.specs.Reading.{is_good, read_word, Reading, reading_with, reading, times_of}
+use Rattle.recording.specs.Reading.{read_word, Reading, reading_with, reading, times_of}
 use Rattle.recording.specs.Carrying.{is_carried, carried_bytes, carried_from}
 use Rattle.recording.specs.Chunks.{most_kept, kept, Carried, begun, is_over, Fed, nothing_fed, place_in, feed, feed_all, end_text, chunked}
 

@@ -15,7 +15,7 @@ use Rattle.recording.specs.Words.{bytes_of}
 use Rattle.recording.specs.Values.{is_decimal, decimal, vector_of}
 use Rattle.recording.specs.Records.{start}
 use Rattle.recording.specs.Reading.{Reading, reading_with, is_vector, is_time}
-use Rattle.recording.specs.Chunks.{most_bytes, kept, carried_with, feed, chunked}
+use Rattle.recording.specs.Chunks.{kept, carried_with, feed, chunked}
 use Rattle.recording.specs.ChunkStatements.{told_by}
 use Rattle.recording.specs.Texts.{trigger4, definitions}
 

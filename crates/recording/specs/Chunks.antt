@@ -6,7 +6,7 @@
 --   end_text c         the end of the text: the word under way ends, then the text does
 -- After a fault or the end nothing is taken any more, so that a call repeats what the one before told.
 use Rattle.std.specs.Prelude.{ℕ, suc, Bool, true, false, not, ◌&&◌, ◌||◌, cond, length, get_or, take, drop, ltb, eqb}
-use mathlib.Core.List.{List, [], ◌∷◌, ◌++◌, tail}
+use mathlib.Core.List.{List, [], ◌∷◌, ◌++◌}
 use Rattle.model.specs.declared.Command.{Command}
 use Rattle.recording.specs.declared.Reader.{Reader}
 use Rattle.recording.specs.declared.Read.{Read}

@@ -116,7 +116,7 @@ module _ (s : Routines) (sound : SoundRoutines s) (k : CoreId) (k_lt : k.0 < s.c
         arith,
         same_current j,
         interrupted_priority s sound k k_lt filled i is,
-        sound.controller.quiet.covered_settled_lem k.0 j k_lt (omega (arith, same_m)) filled,
+        sound.controller.quiet.covered_below k.0 j k_lt (omega (arith, same_m)) filled,
       )
 
   handed_cycles : (id : ℕ) → id ≡ active_at s k.0 → (hand_back (claim_on s k).state id).cycles ≡ 0

@@ -52,7 +52,7 @@ module _ (s : Routines) (sound : SoundRoutines s) (empty : NoneFilled s) where
 
   below : (i k : ℕ) → i < s.controller.n → k < s.controller.m → candidate (source_at s.controller i) ≡ true →
       (source_at s.controller i).priority ≤ (core_at s.controller k).configured
-  below i k h l e = omega (arith, current k l, sound.controller.quiet.candidates_settled_lem i k h l e)
+  below i k h l e = omega (arith, current k l, sound.controller.quiet.candidates_below i k h l e)
 
   waits_not : (i k : ℕ) → i < s.controller.n → k < s.controller.m → active_at s k ≡ 0 →
       candidate (source_at s.controller i) ≡ true → ⊥

@@ -30,7 +30,7 @@ use Rattle.settling.proofs.Run.{ended_here, ended_step, ended_within}
 
 settled_strict : {s : Controller} → Consistent s → Delivering s → NoneAbove s → Strict s
 settled_strict c d st =
-    record { consistent = c; clean = d.clean; quiet = record { candidates_settled_lem = st; covered_settled_lem = d.covered } }
+    record { consistent = c; clean = d.clean; quiet = record { candidates_below = st; covered_below = d.covered } }
 
 -- ---- one delivery
 

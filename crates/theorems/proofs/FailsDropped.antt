@@ -1,7 +1,7 @@
 -- The statements on dropped triggers are false of controllers that count wrongly. Assumes nothing.
 --   fails_history    one list of commands from a fresh controller, computed: the count of source 1 isn't that of the answers
 --   fails_changes    one command on one state: the count of the source that it names isn't what it has to be
-use Prim.Native.Nat.{ℕ, min}
+use Prim.Native.Nat.{min}
 use mathlib.Core.Path.{◌≡◌, refl}
 use mathlib.Core.List.{List, [], ◌∷◌}
 use mathlib.Core.Bool.{false, cond}

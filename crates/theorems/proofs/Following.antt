@@ -21,7 +21,7 @@ use Rattle.model.specs.Commands.{effect, refusal, settled, after_refusal, refuse
 use Rattle.model.specs.Behaviours.{run_by}
 use Rattle.model.specs.Settling.{settle}
 use Rattle.model.specs.Ledger.{Ledger, opening, ledger, request_priority, entries}
-use Rattle.model.specs.Statements.{InRange, source_row, source_in, Follows, PriorityFollowsSource, FollowsIn, LedgerFollowsSource}
+use Rattle.model.specs.Statements.{source_row, source_in, Follows, PriorityFollowsSource, FollowsIn, LedgerFollowsSource}
 use Rattle.settling.specs.Phases.{Kept}
 use Rattle.settling.proofs.Keeps.{kept_pending, kept_priority, kept_configured, settling_leaves_bare}
 use Rattle.well_formed.proofs.Reset.{source_reset, reset-well_formed}

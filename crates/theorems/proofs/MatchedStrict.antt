@@ -61,7 +61,7 @@ module _ (b : Ledger) (s : Controller) where
         let unmasked : not (b.masked (suc i)) ≡ true = or_off (boxed s.cores s.m (suc i)) (not (b.masked (suc i))) c.placed e in
         let waits : waiting (source_at s i) ≡ true = unboxed_waits s.n s.m b s match i p c.request_open e in
         rw (pending_priority s.n s.m b s match i p (and_l _ _ waits))
-        (w.quiet.candidates_settled_lem i k p q (and_in waits (rw (match.masked i p) at unmasked)))
+        (w.quiet.candidates_below i k p q (and_in waits (rw (match.masked i p) at unmasked)))
 
     module _ (t : ℕ) where
       currents_le : count t currents ≤ count t everything
@@ -82,7 +82,7 @@ module _ (b : Ledger) (s : Controller) where
           where
             go : Flag (core_at s k).message.filled → reach t (b.core k) + shown t k ≤ reach t (current k)
             go (on f) =
-                let covered : b.core k < t = omega (arith, match.core k below, w.quiet.covered_settled_lem k low below low_below f) in
+                let covered : b.core k < t = omega (arith, match.core k below, w.quiet.covered_below k low below low_below f) in
                 rw f (omega (arith, reach_under t (b.core k) covered))
             go (off f) = rw (f, match.core k below) (omega arith)
 

@@ -68,8 +68,8 @@ reset-well_formed n m r =
       clean = λ k h. ap (λ (c : Core). c.message.dirty) (core k);
       quiet =
           record {
-            candidates_settled_lem = λ i k g h e. clash e (ap candidate (source i g));
-            covered_settled_lem = λ j k g h e. clash e (empty j);
+            candidates_below = λ i k g h e. clash e (ap candidate (source i g));
+            covered_below = λ j k g h e. clash e (empty j);
           };
       frugal = λ j k g h e f. clash e (empty j);
     }

@@ -166,8 +166,8 @@ quiet_exact : (s : Controller) → 1 ≤ s.m → Exact (quiet s) (Quiet s)
 unfolding quiet
 quiet_exact s some =
     Iff.trans (candidates_exact s some and covered_exact s some) (
-      λ (f, g). record { candidates_settled_lem = λ i k a b c. f i a c k b; covered_settled_lem = λ j k a b e. g j a e k b },
-      λ q. (λ i a c k b. q.candidates_settled_lem i k a b c, λ j a e k b. q.covered_settled_lem j k a b e),
+      λ (f, g). record { candidates_below = λ i k a b c. f i a c k b; covered_below = λ j k a b e. g j a e k b },
+      λ q. (λ i a c k b. q.candidates_below i k a b c, λ j a e k b. q.covered_below j k a b e),
     )
 
 pub frugal_exact : (s : Controller) → Exact (frugal s) (Frugal s)

@@ -96,7 +96,7 @@ module _ (s : Controller) where
   unfolding survey_of cores_survey sources_survey boxes_clean
   survey_passes e p = rw (e, p)
 
--- ---- a is_well_formed state's
+-- ---- a well-formed state's
 
 leb_max : (a b p : ℕ) → leb (max a b) p ≡ leb a p && leb b p
 leb_max a b p =

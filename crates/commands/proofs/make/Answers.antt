@@ -1,6 +1,5 @@
 -- `commands::make` meets its contract: the test of the sizes chooses between the two controllers after a reset. Assumes nothing.
 use Rattle.model.specs.Commands.{make}
-use Rattle.lists.proofs.Bools.{failing, passing}
 use Rattle.std.proofs.Common.{sym, ◌∙◌}
 use Rattle.commands.proofs.make.Goals as goal
 

@@ -4,7 +4,6 @@ use lib.ListN.{length}
 use mathlib.Core.Path.{◌≡◌, sym, ◌∙◌}
 use mathlib.Core.Bool.{true}
 use Rattle.std.proofs.Common.{arith}
-use borrow.Author.Tests.{not-true, not-false}
 use Rattle.model.specs.Records.{max_cores}
 use Rattle.model.specs.Commands.{names_core}
 use Rattle.layout.specs.Bytes.{state_size, state_from}

@@ -1,11 +1,10 @@
 -- `core_steps::retract_all` meets its contract: the boxes passed are empty. The measure is what is left of the cores. Assumes nothing.
-use Prim.Native.Nat.{◌-◌, ◌<◌}
-use mathlib.Core.Path.{sym, ◌∙◌}
-use mathlib.Core.Logic.{⊎_elim}
+use Prim.Native.Nat.{◌<◌}
+use mathlib.Core.Path.{◌∙◌}
 use Rattle.std.proofs.Common.{arith}
 use Rattle.layout.specs.Bytes.{state_from}
 use Rattle.in_place.proofs.Stored.{held_length, read_core}
-use Rattle.core_steps.proofs.Retracted.{Emptying, emptying_none, emptying_by, core_inside, box_names, emptying_filled}
+use Rattle.core_steps.proofs.Retracted.{emptying_none, emptying_by, core_inside, box_names, emptying_filled}
 use Rattle.core_steps.proofs.Retracted.{emptying_empty, emptying_all}
 use Rattle.core_steps.proofs.retract_all.Goals as goal
 use Rattle.core_steps.proofs.retract_all.Goals.{else-c, then-c}

@@ -1,11 +1,7 @@
 -- `decoding::is_state` meets its contract: both loops keep `Flagged`, that the flags of the records passed are flags. Assumes nothing.
 use Prim.Native.Nat.{◌-◌}
-use mathlib.Core.Path.{sym, ◌∙◌}
-use Rattle.std.proofs.Common.{arith}
-use borrow.Author.Tests.{not-true, not-false}
 use Rattle.model.specs.Records.{max_sources, max_cores}
-use Rattle.decoding.proofs.Flags.{Flagged, wrong_size, no_source_flags, no_core_flags, flagged_none, flagged_source, flagged_core}
-use Rattle.decoding.proofs.Flags.{all_flagged}
+use Rattle.decoding.proofs.Flags.{Flagged}
 use Rattle.decoding.proofs.is_state.Given as goal
 
 abbrev pub invariant-loop-passed : goal.invariant-loop-passed

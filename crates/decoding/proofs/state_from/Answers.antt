@@ -1,9 +1,6 @@
 -- `decoding::state_from` meets its contract: both loops keep `ReadTo`, that the records passed are those that the bytes encode.
 -- Assumes nothing.
-use Prim.Native.Nat.{◌-◌}
-use Rattle.std.proofs.Common.{arith}
-use Rattle.model.specs.Records.{max_sources, max_cores}
-use Rattle.decoding.proofs.Reading.{ReadTo, read_none, source_more, core_more, all_read}
+use Rattle.decoding.proofs.Reading.{all_read}
 use Rattle.decoding.proofs.state_from.Goals as goal
 
 pub returns : goal.returns

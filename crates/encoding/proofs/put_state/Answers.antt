@@ -1,12 +1,11 @@
 -- `encoding::put_state` meets its contract: both loops keep `Written`, that the bytes so far are those of the records passed.
 -- Assumes nothing.
-use Prim.Native.Nat.{◌-◌}
 use mathlib.Core.Path.{◌≡◌}
 use Rattle.std.proofs.Common.{arith}
 use lib.ListN.{length}
 use Rattle.model.specs.Records.{max_sources, max_cores}
 use Rattle.lists.proofs.Arrays.{unmapped}
-use Rattle.encoding.proofs.Writing.{Written, written_none, source_more, core_more, all_written}
+use Rattle.encoding.proofs.Writing.{written_none, source_more, core_more, all_written}
 use Rattle.std.proofs.Common.{rules}
 use Rattle.encoding.proofs.put_state.Goals as goal
 

@@ -1,8 +1,7 @@
 -- `exports::psic_execute` meets its contract: bytes that encode no state and numbers that name no command are refused, and past both
 -- tests the command runs on the state that the bytes encode. Assumes nothing.
-use mathlib.Core.Path.{◌≡◌, refl}
+use mathlib.Core.Path.{◌≡◌}
 use mathlib.Core.Bool.{true}
-use Rattle.lists.proofs.Bools.{failing, passing}
 use Rattle.layout.specs.Bytes.{is_state}
 use Rattle.exports.proofs.Calls.{bad_number, bad_bytes, execute_went}
 use Rattle.std.proofs.Common.{sym, ◌∙◌}

@@ -1,9 +1,6 @@
 -- `in_place::number_all` meets its contract: the rows are filled from the front. The measure is what is left of each. Assumes nothing.
-use Prim.Native.Nat.{◌-◌, ◌<◌, ◌≤◌}
-use Rattle.std.proofs.Common.{arith}
-use Rattle.model.specs.Records.{max_sources, max_cores}
-use Rattle.lists.proofs.Filling.{filling_begin}
-use Rattle.in_place.proofs.Numbering.{sizes_read, Keys, Ranks, key_more, rank_more, numbered_all}
+use Prim.Native.Nat.{◌-◌, ◌≤◌}
+use Rattle.in_place.proofs.Numbering.{Keys, Ranks}
 use Rattle.in_place.proofs.number_all.Given as goal
 
 abbrev pub invariant-loop-k : goal.invariant-loop-k

@@ -1,8 +1,5 @@
 -- `in_place::put_back` meets its contract: a filled box names a source, which is written with its mark off. Assumes nothing.
-use Prim.Native.Nat.{◌≤◌}
-use Rattle.std.proofs.Common.{arith}
-use Rattle.model.specs.Records.{max_sources}
-use Rattle.in_place.proofs.Stored.{back_empty, back_filled}
+use Rattle.in_place.proofs.Stored.{back_filled}
 use Rattle.in_place.proofs.put_back.Goals as goal
 
 pub returns-then-c : goal.returns-then-c

@@ -1,6 +1,6 @@
 -- `recording_calls::psic_read` meets its contract: its tests are `fits_read`. Assumes nothing.
 use Rattle.std.proofs.Common.{arith}
-use Rattle.recording_calls.proofs.Commands.{fits, no_commands, no_times, read_unfit}
+use Rattle.recording_calls.proofs.Commands.{no_commands, no_times, read_unfit}
 use Rattle.recording_calls.proofs.psic_read.Goals as goal
 
 pub returns-then-commands-most : goal.returns-then-commands-most

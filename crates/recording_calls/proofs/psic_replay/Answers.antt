@@ -1,6 +1,6 @@
 -- `recording_calls::psic_replay` meets its contract: its tests are `fits_replay`. Assumes nothing.
 use Rattle.std.proofs.Common.{arith}
-use Rattle.recording_calls.proofs.Answers.{fits, no_state, no_answers, replay_unfit}
+use Rattle.recording_calls.proofs.Answers.{no_state, no_answers, replay_unfit}
 use Rattle.recording_calls.proofs.psic_replay.Goals as goal
 
 pub returns-then-state-ne-STATE_SIZE : goal.returns-then-state-ne-STATE_SIZE

@@ -6,9 +6,9 @@ use mathlib.Core.Bool.{Bool}
 use Rattle.std.proofs.Common.{arith}
 use Rattle.recording.specs.Calls.{room}
 use Rattle.recording_calls.specs.Remaining.{left}
-use Rattle.recording_calls.proofs.Parts.{after, next_none, next_one}
-use Rattle.recording_calls.proofs.Reached.{due, due_less, commands_room, more_room}
-use Rattle.recording_calls.proofs.Commands.{ReadTo, read_none, read_past, read_more, read_end, commands_fit, times_fit}
+use Rattle.recording_calls.proofs.Parts.{after, next_one}
+use Rattle.recording_calls.proofs.Reached.{commands_room, more_room}
+use Rattle.recording_calls.proofs.Commands.{read_past, read_more, read_end, commands_fit, times_fit}
 use Rattle.recording_calls.proofs.read_all.Goals as goal
 
 pub overflow_mul-count : goal.overflow_mul-count

@@ -1,7 +1,7 @@
 -- `source_steps::offer` meets its contract: the two numbers tell whether the definition delivers. Assumes nothing.
 use Rattle.std.proofs.Common.{arith}
 use Rattle.in_place.proofs.Stored.{held_length}
-use Rattle.source_steps.proofs.Offering.{core_fits, names_one, offer_none, offer_rests, offer_delivers}
+use Rattle.source_steps.proofs.Offering.{core_fits, names_one, offer_rests, offer_delivers}
 use Rattle.std.proofs.Common.{rules}
 use Rattle.source_steps.proofs.offer.Goals as goal
 

@@ -4,12 +4,11 @@ use mathlib.Core.Path.{◌≡◌}
 use mathlib.Core.Bool.{true}
 use lib.ListN.{length}
 use Rattle.std.proofs.Common.{arith}
-use borrow.Author.Tests.{not-true, not-false}
 use Rattle.model.specs.Records.{max_sources}
 use Rattle.model.specs.Commands.{names_source}
 use Rattle.layout.specs.Bytes.{state_size, state_from}
 use Rattle.in_place.proofs.Stored.{held_length}
-use Rattle.source_steps.proofs.Sourced.{cores_fit, named_by, bad_source, some_id, in_array}
+use Rattle.source_steps.proofs.Sourced.{cores_fit, named_by, bad_source, in_array}
 use Rattle.source_steps.proofs.Sourced.{Judged, judged, refused_later, dropped, offered, accepted}
 use Rattle.source_steps.proofs.on_source.Goals as goal
 

@@ -1,16 +1,12 @@
 -- `state_test::each_spare_core` meets its contract. The loop's invariant: the flag says whether every spare
 -- core below k is reset. Assumes nothing.
-use Prim.Native.Nat.{◌≤◌, ◌-◌}
 use mathlib.Core.Path.{◌≡◌, sym, ap, ◌∙◌}
-use mathlib.Core.Logic.{⊎_elim}
 use Rattle.std.proofs.Common.{arith, not}
-use Rattle.model.specs.Records.{max_cores, core_at}
+use Rattle.model.specs.Records.{core_at}
 use Rattle.model.specs.WellFormed.{is_reset_core}
-use Rattle.lists.specs.Walks.{every}
-use Rattle.lists.proofs.Turns.{since_begin, since_turn, since_end}
+use Rattle.lists.proofs.Turns.{since_begin, since_turn}
 use Rattle.layout.specs.Bytes.{state_from}
 use Rattle.layout.proofs.InPlace.{core_read}
-use Rattle.well_formed.specs.Loops.{spare_core}
 use Rattle.state_test.proofs.each_spare_core.Goals as goal
 use Rattle.state_test.proofs.each_spare_core.Goals.{else-not-is_reset_core, then-not-is_reset_core}
 

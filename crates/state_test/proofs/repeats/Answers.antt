@@ -1,14 +1,10 @@
 -- `state_test::repeats` meets its contract. The loop's invariant: the flag says whether all bytes below `at` repeat.
 -- Assumes nothing.
-use Prim.Native.Nat.{◌≤◌, ◌-◌}
-use mathlib.Core.Path.{◌≡◌, refl, ap, ◌∙◌}
+use mathlib.Core.Path.{refl, ap, ◌∙◌}
 use mathlib.Core.Bool.{not}
-use mathlib.Core.Logic.{⊎_elim}
 use Rattle.std.proofs.Common.{arith}
 use borrow.Author.Tests.{eq-eqb, ne_eqb}
-use Rattle.lists.specs.Walks.{every}
-use Rattle.lists.proofs.Turns.{since_begin, since_turn, since_end}
-use Rattle.state_test.specs.OnBytes.{repeating}
+use Rattle.lists.proofs.Turns.{since_begin, since_turn}
 use Rattle.state_test.proofs.repeats.Goals as goal
 use Rattle.state_test.proofs.repeats.Goals.{then-state-at, else-state-at}
 

@@ -1,13 +1,8 @@
 -- `state_test::repeats` meets its contract. The loop's invariant: the flag says whether all bytes below `at` repeat.
 -- Assumes nothing.
 use Prim.Native.Nat.{◌≤◌, ◌-◌}
-use mathlib.Core.Path.{◌≡◌, refl, ap, ◌∙◌}
-use mathlib.Core.Bool.{not}
-use mathlib.Core.Logic.{⊎_elim}
-use Rattle.std.proofs.Common.{arith}
-use borrow.Author.Tests.{eq-eqb, ne_eqb}
+use mathlib.Core.Path.{◌≡◌}
 use Rattle.lists.specs.Walks.{every}
-use Rattle.lists.proofs.Turns.{since_begin, since_turn, since_end}
 use Rattle.state_test.specs.OnBytes.{repeating}
 use Rattle.state_test.proofs.repeats.Given as goal
 

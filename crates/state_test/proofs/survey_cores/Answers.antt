@@ -3,7 +3,6 @@
 use Prim.Native.Nat.{ℕ, ◌+◌, ◌≤◌, ◌<◌, ◌-◌}
 use mathlib.Core.Path.{◌≡◌, sym, ◌∙◌, ap}
 use mathlib.Core.Bool.{Bool}
-use mathlib.Core.Logic.{⊎_elim}
 use Rattle.std.proofs.Common.{arith, List}
 use Rattle.model.specs.declared.Source.{Source}
 use Rattle.model.specs.declared.Core.{Core}
@@ -156,8 +155,8 @@ loop-k-preserved c =
       | then-c+else-seen-at+else-not-is_backed w ↦
           (
           let id : ℕ = core.message.source.0 in
-    let (low, high) = names.1 w.if-c.true in
-    let tested = backing c.args.state.now core (id - 1) (omega (arith, low, high, sources_le)) w.source_at.ensures w.is_backed.ensures in
+          let (low, high) = names.1 w.if-c.true in
+          let tested = backing c.args.state.now core (id - 1) (omega (arith, low, high, sources_le)) w.source_at.ensures w.is_backed.ensures in
           filled_read state c.loop-k.k read b names sources_le w.if-c.true w.if-seen-at.false
           (accepted (flag_exact _) tested w.if-not-is_backed.false) w.seen-is
           )

@@ -1,4 +1,4 @@
--- `state_test::well_formed` meets its contract: each test decides one of the facts that the survey of a is_well_formed state shows.
+-- `state_test::well_formed` meets its contract: each test decides one of the facts that the survey of a well-formed state shows.
 -- Assumes nothing.
 use Rattle.std.proofs.Common.{arith}
 use borrow.Author.Tests.{not-true, not-false}

@@ -1,6 +1,5 @@
 -- `steps::step` meets its contract: an unsound state refuses every command, and a sound one does as the two kinds of commands do. Assumes
 -- nothing.
-use borrow.Author.Tests.{not-true, not-false}
 use Rattle.steps.proofs.Gone.{go_refused, ready, gone_on}
 use Rattle.steps.proofs.step.Goals as goal
 

@@ -1,10 +1,9 @@
 -- `well_formed::core_in_range` meets its contract: the configured priority, then the box, by whether it is filled. Assumes nothing.
 use Rattle.std.proofs.Common.{arith}
-use Rattle.well_formed.specs.Loops.{core_fits}
 use Rattle.lists.proofs.Bools.{clash}
-use Rattle.lists.proofs.Exact.{Exact, between_exact, refused, given, agree}
+use Rattle.lists.proofs.Exact.{between_exact, refused, given, agree}
 use Rattle.well_formed.proofs.Clauses.{empty_box_exact}
-use Rattle.well_formed.proofs.Cores.{CoreNames, core_fits_exact}
+use Rattle.well_formed.proofs.Cores.{core_fits_exact}
 use Rattle.well_formed.proofs.core_in_range.Goals as goal
 
 pub returns-then-top-c : goal.returns-then-top-c

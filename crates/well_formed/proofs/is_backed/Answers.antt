@@ -1,9 +1,8 @@
 -- `well_formed::is_backed` meets its contract: each test decides one of the facts that the definition asks for. Assumes nothing.
 use borrow.Author.Tests.{not-true, not-false}
-use Rattle.well_formed.specs.Loops.{backs}
 use Rattle.lists.proofs.Bools.{clash}
-use Rattle.lists.proofs.Exact.{Exact, ltb_exact, passes, refused, agree}
-use Rattle.well_formed.proofs.Cores.{Backs, backs_exact}
+use Rattle.lists.proofs.Exact.{ltb_exact, passes, refused, agree}
+use Rattle.well_formed.proofs.Cores.{backs_exact}
 use Rattle.well_formed.proofs.is_backed.Goals as goal
 
 pub returns-then-not-s : goal.returns-then-not-s

@@ -1,9 +1,7 @@
 -- `arbitration::marks::marks_of` meets its contract. The loop's invariant: so many of the first i keys are candidates', and the marks up
 -- to i are made. The measure is what is left of the row. Assumes nothing.
-use Prim.Native.Nat.{◌-◌}
-use mathlib.Core.Logic.{⊎_elim}
 use Rattle.std.proofs.Common.{arith}
-use Rattle.arbitration.proofs.Marking.{marks_fewer, Marking, marking_none, marking_fits, marking_on, marking_off}
+use Rattle.arbitration.proofs.Marking.{marking_none, marking_fits, marking_on, marking_off}
 use Rattle.arbitration.proofs.marks.marks_of.Goals as goal
 use Rattle.arbitration.proofs.marks.marks_of.Goals.{else-keys-i-gt0, then-keys-i-gt0}
 

@@ -1,11 +1,8 @@
 -- `arbitration::places::greatest` meets its contract: the greatest so far is that of the numbers passed. The measure is what is left of the
 -- row. Assumes nothing.
-use Prim.Native.Nat.{ℕ, ◌-◌}
-use mathlib.Core.List.{List}
-use mathlib.Core.Logic.{⊎_elim}
-use Rattle.std.proofs.Common.{arith}
+use Prim.Native.Nat.{◌-◌}
 use Rattle.arbitration.specs.Places.{AtLeast}
-use Rattle.arbitration.proofs.Told.{SoFar, so_far_none, so_far_taken, so_far_left, so_far_all}
+use Rattle.arbitration.proofs.Told.{SoFar}
 use Rattle.arbitration.proofs.places.greatest.Given as goal
 
 abbrev pub invariant-loop-i : goal.invariant-loop-i

@@ -1,11 +1,8 @@
 -- `arbitration::places::lowest` meets its contract: the least so far is that of the numbers passed. The measure is what is left of the row.
 -- Assumes nothing.
-use Prim.Native.Nat.{ℕ, ◌-◌}
-use mathlib.Core.List.{List}
-use mathlib.Core.Logic.{⊎_elim}
-use Rattle.std.proofs.Common.{arith}
+use Prim.Native.Nat.{◌-◌}
 use Rattle.arbitration.specs.Places.{AtMost}
-use Rattle.arbitration.proofs.Told.{SoFar, so_far_none, so_far_taken, so_far_left, so_far_all}
+use Rattle.arbitration.proofs.Told.{SoFar}
 use Rattle.arbitration.proofs.places.lowest.Given as goal
 
 abbrev pub invariant-loop-k : goal.invariant-loop-k

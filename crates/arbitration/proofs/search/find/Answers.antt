@@ -1,5 +1,4 @@
 -- `arbitration::search::find` meets its contract: the mark behind the last key tells whether there is a candidate. Assumes nothing.
-use Rattle.std.proofs.Common.{arith}
 use Rattle.arbitration.proofs.Looks.{search_none, search_some}
 use Rattle.arbitration.proofs.search.find.Goals as goal
 
