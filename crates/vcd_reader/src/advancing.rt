@@ -158,6 +158,7 @@ fn after_definitions(text: &[u8], from: usize, r: Reader) -> Advanced
 // ---- all of it
 
 // The words from an offset on, up to one that gives a command, or one that is read by itself. A reader with a fault passes the rest.
+#[inline(always)]
 pub fn advance(text: &[u8], from: usize, r: Reader) -> Advanced
     ensures { Advances text.now from r result }
 {

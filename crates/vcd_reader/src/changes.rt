@@ -68,6 +68,7 @@ fn with_value(v: Variable, given: Value) -> Variable
 }
 
 // The vector becomes the value of the variable with this code, if there is one and the vector isn't longer.
+#[inline(never)]
 fn placed(vs: Variables, code: u32, v: Vector) -> Placed
     ensures { Places vs code v result }
 {

@@ -56,6 +56,7 @@ fn or_spelled(before: Ended, text: &[u8], at: usize, letters: &[u8]) -> Ended
 }
 
 // The first word of a block.
+#[inline(never)]
 pub fn dump_at(text: &[u8], at: usize) -> Ended
     ensures { Told opens_block text.now at result }
 {

@@ -132,6 +132,7 @@ fn coded_with(end: usize, code: u32) -> Coded
 }
 
 // A code that four bytes spell is above 2^24, and takes no other.
+#[inline(never)]
 fn long_code(text: &[u8], from: usize) -> Coded
     ensures { CodeThere text.now from result }
 {

@@ -21,6 +21,7 @@ pub fn to_end(text: &[u8], from: usize) -> Ended
 }
 
 // A comment up to its $end.
+#[inline(never)]
 fn comment(text: &[u8], at: usize) -> Ended
     ensures { PassedBy Body text.now at result }
 {
