@@ -66,6 +66,7 @@ fn taken(s: Strobe) -> Decoded
 }
 
 // Reads on to the next command, and from the last word's end to the end of the text, which ends a stamp as well.
+#[inline(always)]
 fn next(text: &[u8], at: usize, r: Reader) -> Advanced
     requires { at ≤ length text.now }
     ensures { Continues text.now at r result }

@@ -189,6 +189,7 @@ pub fn begin(
 }
 
 // One call.
+#[inline(always)]
 pub fn step(
     state: &mut [u8],
     active: &mut [u16],
