@@ -1,5 +1,5 @@
 // A state, a word and a command read from bytes, and a command from its numbers. The bytes are those of layout/specs/Bytes.antt. Calls for
-// the exports, which test lengths first; the program cases reads its commands here too.
+// the exports, which test lengths first.
 #![tactic(auto)]
 
 ghost use Rattle.std.specs.Prelude.{◌+◌, ◌*◌, ◌<◌, ◌≤◌, ◌≡◌, length};
