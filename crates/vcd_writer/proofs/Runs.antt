@@ -29,7 +29,8 @@ use Rattle.recording.specs.Words.{all}
 use Rattle.recording.specs.Declarations.{narrow}
 use Rattle.recording.specs.Writing.{core_value, arg_value, command_text, text_from, writable}
 use Rattle.recording.specs.Calls.{is_run}
-use Rattle.vcd_writer.specs.Lines.{core_of, arg_of, prio_of, value_lines, lines_of, lines_at, fits_at}
+use Rattle.vcd_writer.specs.declared.values.Numbers.{Numbers}
+use Rattle.vcd_writer.specs.Lines.{core_of, arg_of, prio_of, value_lines, lines_of, numbers_at, lines_at, fits_at}
 
 -- ---- three numbers
 
@@ -37,12 +38,15 @@ abbrev reads : ℕ → ℕ → ℕ → List Command
 reads number at p = one_command (command_of number at p)
 
 -- the command, its number, and what its variables hold: core, arg and prio
-abbrev Names : ℕ → ℕ → ℕ → Command → Type 0
-Names number at p c =
-    (command_of number at p ≡ Known c) × (number_of c ≡ number) × (core_value c ≡ core_of number at) × (arg_value c ≡ arg_of number at) ×
-    (level_of c ≡ prio_of number p)
+abbrev Names : Numbers → Command → Type 0
+Names n c =
+    (command_of n.number n.target n.level ≡ Known c) × (number_of c ≡ n.number) × (core_value c ≡ core_of n) × (arg_value c ≡ arg_of n) ×
+    (level_of c ≡ prio_of n)
 
-names : (number at p : ℕ) → number ≤ 7 → (c : Command) × Names number at p c
+abbrev numbers_of : ℕ → ℕ → ℕ → Numbers
+numbers_of number at p = record { number = number; target = at; level = p }
+
+names : (number at p : ℕ) → number ≤ 7 → (c : Command) × Names (numbers_of number at p) c
 unfolding command_of
 names zero at p h = (OnSource (source_id at) (SetSourcePriority p), (refl, refl, refl, refl, refl))
 names (suc zero) at p h = (OnSource (source_id at) Mask, (refl, refl, refl, refl, refl))
@@ -132,7 +136,7 @@ module _ (list : List ℕ) where
     fit : all (writable narrow) (commands_in list) ≡ every k (fits_at list) && all (writable narrow) (from k)
 
   module _ (k : ℕ) (h : Part k) (inside : command_size * k + command_size ≤ length list) where
-    module _ (c : Command) (is : Names (number_at k) (target_at k) (level_at k) c) where
+    module _ (c : Command) (is : Names (numbers_at list k) c) where
       same_lines : command_text k c ≡ lines_at list k
       unfolding command_text lines_of value_lines joined
       same_lines = rw (is.2, is.3, is.4, is.1)

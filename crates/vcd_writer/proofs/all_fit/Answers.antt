@@ -1,20 +1,22 @@
--- `vcd_writer::all_fit` meets its contract. The loop's invariant is `FitTo`. The measure is what is left. Assumes nothing.
-use mathlib.Core.Path.{ap, ◌∙◌}
-use mathlib.Core.Bool.{not}
-use Rattle.vcd_writer.proofs.Texts.{fit_placed, fit_none, fit_one, fit_not}
+-- `vcd_writer::all_fit` meets its contract. The loop's invariant: all fit so far. Assumes nothing.
+use Rattle.std.proofs.Common.{◌≡◌, refl, sym, true, false, add-one}
+use Rattle.lists.specs.Walks.{every}
+use Rattle.lists.proofs.Bools.{and_in, clash, refuted}
+use Rattle.lists.proofs.Walks.{every_out}
+use Rattle.vcd_writer.specs.Lines.{fits_at}
 use Rattle.vcd_writer.proofs.all_fit.Goals as goal
 
 pub loop-k-init : goal.loop-k-init
-loop-k-init c = fit_none _ _
+unfolding every
+loop-k-init c = refl
 
 pub returns-then-not-fit : goal.returns-then-not-fit
 returns-then-not-fit c =
-    let l = c.loop-k in
-    let tested = c.fit.ensures ∙ fit_placed c.args.list.now l.k c.word_at.ensures c.word_at-in-loop-k.ensures in
-    fit_not _ _ l.k l.invariant c.loop-k-test.true tested (ap not c.if-not-fit.true)
+    let one : fits_at c.args.list.now c.loop-k.k ≡ false = cc in
+    sym (refuted _ (λ all. clash (every_out _ _ all c.loop-k.k c.loop-k-test.true) one))
 
 pub loop-k-preserved : goal.loop-k-preserved
+unfolding every
 loop-k-preserved c =
-    let l = c.loop-k in
-    let tested = c.fit.ensures ∙ fit_placed c.args.list.now l.k c.word_at.ensures c.word_at-in-loop-k.ensures in
-    fit_one _ _ l.k l.invariant c.loop-k-test.true tested (ap not c.if-not-fit.false)
+    let one : fits_at c.args.list.now c.loop-k.k ≡ true = cc in
+    rw add-one (and_in c.loop-k.invariant one)

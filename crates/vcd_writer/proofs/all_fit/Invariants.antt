@@ -1,10 +1,8 @@
--- `vcd_writer::all_fit` meets its contract. The loop's invariant is `FitTo`. The measure is what is left. Assumes nothing.
-use Prim.Native.Nat.{◌-◌}
-use Rattle.vcd_writer.proofs.Texts.{FitTo}
+-- `vcd_writer::all_fit` meets its contract. The loop's invariant: all fit so far. Assumes nothing.
+use Rattle.std.proofs.Common.{◌≡◌, true}
+use Rattle.lists.specs.Walks.{every}
+use Rattle.vcd_writer.specs.Lines.{fits_at}
 use Rattle.vcd_writer.proofs.all_fit.Given as goal
 
 abbrev pub invariant-loop-k : goal.invariant-loop-k
-invariant-loop-k l = FitTo l.list l.count l.k
-
-abbrev pub decreases-loop-k : goal.decreases-loop-k
-decreases-loop-k l = l.count - l.k
+invariant-loop-k l = every l.k (fits_at l.list) ≡ true
