@@ -29,15 +29,8 @@ const LAST_NUMBER: u8 = 7;
 fn is_run(list: &[u8]) -> bool
     ensures { result ≡ is_run list.now }
 {
-    if list.len() % COMMAND_SIZE != 0 {
-        return false;
-    }
-    for k in 0..list.len() / COMMAND_SIZE {
-        if list[COMMAND_SIZE * k] > LAST_NUMBER {
-            return false;
-        }
-    }
-    true
+    list.len() % COMMAND_SIZE == 0
+        && (0..list.len() / COMMAND_SIZE).all(|k| list[COMMAND_SIZE * k] <= LAST_NUMBER)
 }
 
 // Whether every value that one of the first commands uses fits its variable.
@@ -45,12 +38,7 @@ fn all_fit(list: &[u8], count: usize) -> bool
     requires { command_size * count ≤ length list.now }
     ensures { result ≡ every count (fits_at list.now) }
 {
-    for k in 0..count {
-        if !Numbers::at(list, k).fit() {
-            return false;
-        }
-    }
-    true
+    (0..count).all(|k| Numbers::at(list, k).fit())
 }
 
 // The length of the text of the first commands.
