@@ -1,5 +1,4 @@
 -- The text of a row of commands, by the numbers in its bytes, a command at a time. Assumes nothing.
---   every_all                                      a test of each number of a range, as `every`
 --   MeasuredTo, measured_none, measured_one        the length of the text of the first commands
 --   WrittenFrom                                    the text from a command on is written: the text before it, written too, gives the whole
 --   written_none, written_room, written_one        nothing is written; there is room for one more command; it is written
@@ -11,30 +10,12 @@ use lib.ListN.{length, length-append}
 use lib.Seq.{sets}
 use native.Mathlib.Numerals.{add-one}
 use native.Mathlib.Omega.{arith}
-use Rattle.std.specs.List.{list_all, range_with_len}
-use Rattle.std.proofs.lemmas.List.Folds.{list_all-append, list_all-map}
-use Rattle.std.proofs.lemmas.List.FromFn.{map-range_with_len_more}
-use Rattle.std.proofs.Common.{zero-add, [], ◌∷◌, map, zero, Bool}
-use mathlib.Core.Bool.{and-true}
-use Rattle.lists.specs.Walks.{every}
 use Rattle.lists.specs.Rows.{gather, joined}
 use Rattle.lists.proofs.Writes.{sets_before}
 use Rattle.recording.specs.Declarations.{narrow}
 use Rattle.recording.specs.Writing.{digits, definition_text}
 use Rattle.vcd_writer.specs.Lines.{lines_at, text_to, Room, Put}
 use Rattle.vcd_writer.proofs.Putting.{put_length}
-
-pub every_all : (n : ℕ) (f : ℕ → Bool) → list_all f (range_with_len 0 n) ≡ every n f
-unfolding every
-every_all zero f = refl
-every_all (suc k) f =
-    let id : Bool → Bool = λ b. b in
-    let more : map f (range_with_len 0 (suc k)) ≡ map f (range_with_len 0 k) ++ f k ∷ [] =
-    rw add-one at (map-range_with_len_more f 0 k k (zero-add k)) in
-    sym (list_all-map id f (range_with_len 0 (suc k)))
-    ∙ ap (list_all id) more
-    ∙ list_all-append id (map f (range_with_len 0 k)) (f k ∷ [])
-    ∙ rw (list_all-map id f (range_with_len 0 k), every_all k f, and-true)
 
 module _ (list : List ℕ) (k : ℕ) where
   text_more : text_to list (suc k) ≡ text_to list k ++ lines_at list k

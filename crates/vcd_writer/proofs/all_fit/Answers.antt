@@ -2,7 +2,7 @@
 use Rattle.std.proofs.Common.{refl, rules, ◌∙◌, arith}
 use Rattle.std.proofs.lemmas.Iterator.{YieldsList-from_range}
 use Rattle.std.proofs.lemmas.Iterator.Search.{all_from_yields_List}
-use Rattle.vcd_writer.proofs.Texts.{every_all}
+use Rattle.decoding.proofs.Flags.{every_all}
 use borrow.Author.Tests.{tests}
 use Rattle.vcd_writer.specs.Lines.{fits_at}
 use Rattle.vcd_writer.proofs.all_fit.Goals as goal

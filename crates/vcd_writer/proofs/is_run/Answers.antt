@@ -4,7 +4,7 @@ use borrow.Author.Tests.{tests}
 use Rattle.std.proofs.lemmas.Iterator.{YieldsList-from_range}
 use Rattle.std.proofs.lemmas.Iterator.Search.{all_from_yields_List}
 use Rattle.vcd_writer.proofs.Runs.{small, run_numbers}
-use Rattle.vcd_writer.proofs.Texts.{every_all}
+use Rattle.decoding.proofs.Flags.{every_all}
 use Rattle.vcd_writer.proofs.is_run.Goals as goal
 
 pub returns-then-list-eq0 : goal.returns-then-list-eq0
