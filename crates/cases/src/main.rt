@@ -4,92 +4,75 @@
 mod print;
 mod script;
 
-use model::{Answer, Command, Controller, Decoded, SourceAction, SourceId};
+use model::{Answer, Command, Controller, SourceAction, SourceId};
+use print::{Count, Outcome, Told, Words};
+use script::{SCRIPT, Step, Wanted};
 use std::io;
+
+const START: &str =
+    "start: 32 sources, 2 cores, every source unmasked with priority equal to its id";
 
 // The table's start state, by the commands that set it up.
 fn start() -> Controller {
     let mut s = commands::make(32, 2).state;
-    let mut id = 1u16;
-    while id <= 32 {
-        let a = commands::execute(
-            s,
-            Command::OnSource(SourceId(id), SourceAction::SetSourcePriority(id)),
-        );
-        let b = commands::execute(
-            a.state,
-            Command::OnSource(SourceId(id), SourceAction::Unmask),
-        );
-        s = b.state;
-        id += 1;
+    for id in 1..=32 {
+        for action in [SourceAction::SetSourcePriority(id), SourceAction::Unmask] {
+            s = commands::execute(s, Command::OnSource(SourceId(id), action)).state;
+        }
     }
     s
 }
 
-// Whether a command answered what the table wants of it: number, id, cycles, the two current priorities, and the owner of one request.
-fn as_wanted(a: Answer, row: [u16; script::COLUMNS]) -> bool {
-    let s = a.state;
-    if a.number as u16 != row[4] {
-        return false;
-    }
-    if a.id.0 != row[5] {
-        return false;
-    }
-    if a.cycles != row[6] {
-        return false;
-    }
-    if records::current_priority(s.cores[0]) != row[7] {
-        return false;
-    }
-    if records::current_priority(s.cores[1]) != row[8] {
-        return false;
-    }
-    print::owned(s, row[9], row[10])
-}
-
-// One more, which the table's few rows never bring to the largest number.
-fn one_more(count: u16) -> u16 {
-    if count < 65535 { count + 1 } else { count }
+// Whether a command answered what the table wants of it.
+fn is_wanted(a: &Answer, wanted: &Wanted) -> bool {
+    let s = &a.state;
+    a.number == wanted.number
+        && a.id.0 == wanted.id
+        && a.cycles == wanted.cycles
+        && records::current_priority(s.cores[0]) == wanted.priorities[0]
+        && records::current_priority(s.cores[1]) == wanted.priorities[1]
+        && print::owner_of(s, wanted.request) == Some(wanted.owner)
 }
 
 fn main(rt: HostRuntime) -> io::Result<()> {
     let mut s = start();
-    let mut i = 0;
-    let mut marked = 0u16;
-    let mut good = 0u16;
-    while i < script::ROWS {
-        let row = script::row(i);
-        let kind = row[1];
-        let at = row[2];
-        let priority = row[3];
-        match decoding::command(kind, at, priority) {
-            Decoded::Known(c) => {
-                print::label(&rt, row[0])?;
-                print::command(&rt, c)?;
-                let a = commands::execute(s, c);
-                print::answer(&rt, a)?;
-                if 0 < row[0] {
-                    let wanted = as_wanted(a, row);
-                    print::verdict(&rt, wanted)?;
-                    marked = one_more(marked);
-                    if wanted {
-                        good = one_more(good);
-                    }
-                }
-                print::line_end(&rt)?;
+    let mut marked = 0usize;
+    let mut good = 0usize;
+    for step in &SCRIPT {
+        match step {
+            Step::Start => {
+                println!(rt; "\n{START}")?;
+                s = start();
+            }
+            Step::Make { sources, cores } => {
+                let a = commands::make(*sources, *cores);
+                let (n, m) = (a.state.n, a.state.m);
+                print!(rt;
+                    "make {}, {}: {}, ",
+                    Count(*sources, "source"),
+                    Count(*cores, "core"),
+                    Outcome(a.number)
+                )?;
+                println!(rt; "handed back: {}, {}", Count(n, "source"), Count(m, "core"))?;
+            }
+            Step::Run(command) => {
+                let a = commands::execute(s, *command);
+                println!(rt; "     {}: {}", Words(*command), Told(&a))?;
                 s = a.state;
             }
-            Decoded::Unknown => {
-                if kind == script::START {
-                    print::start(&rt)?;
-                    s = start();
-                }
-                if kind == script::MAKE {
-                    print::making(&rt, at, priority, commands::make(at, priority))?;
-                }
+            Step::Marked(mark, command, wanted) => {
+                let a = commands::execute(s, *command);
+                marked += 1;
+                let verdict = if is_wanted(&a, wanted) {
+                    good += 1;
+                    "as the table wants"
+                } else {
+                    "NOT AS THE TABLE WANTS"
+                };
+                println!(rt; "T{mark:<4}{}: {}   {verdict}", Words(*command), Told(&a))?;
+                s = a.state;
             }
         }
-        i += 1;
     }
-    print::count(&rt, good, marked)
+    println!(rt; "\n{good} of {marked} marked rows are as the table wants")
 }

@@ -1,5 +1,5 @@
 -- What the proofs of reading cite.
 --   Flags      the test of a state's bytes
---   Reading    a state from its bytes, a record at a time
-mod Flags
+--   Reading    arrays made by reading, an element for each index
+pub mod Flags
 mod Reading

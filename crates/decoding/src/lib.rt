@@ -1,5 +1,5 @@
 // A state, a word and a command read from bytes, and a command from its numbers. The bytes are those of layout/specs/Bytes.antt. Calls for
-// the exports, which test lengths first; the program cases reads its commands here too.
+// the exports, which test lengths first.
 #![tactic(auto)]
 
 ghost use Rattle.std.specs.Prelude.{◌+◌, ◌*◌, ◌<◌, ◌≤◌, ◌≡◌, length};
@@ -14,18 +14,16 @@ use layout::{
     STATE_SIZE,
 };
 use model::{
-    CORES, Command, Controller, Core, CoreAction, CoreId, Decoded, SOURCES, Source, SourceAction,
-    SourceId,
+    CORES, Command, Controller, Core, CoreAction, CoreId, SOURCES, Source, SourceAction, SourceId,
 };
+use std::array;
 
 // The word at i, its lower byte first.
 pub fn word_at(b: &[u8], i: usize) -> u16
     requires { i + 1 < length b.now }
     ensures { result ≡ word_at b.now i }
 {
-    let low = b[i] as u16;
-    let high = b[i + 1] as u16;
-    low + 256 * high
+    u16::from_le_bytes([b[i], b[i + 1]])
 }
 
 // The source whose bytes begin at i.
@@ -80,18 +78,12 @@ pub fn state_from(b: &[u8]) -> Controller
     requires { length b.now ≡ state_size }
     ensures { result ≡ state_from b.now }
 {
-    let mut s = records::reset(word_at(b, 0), word_at(b, 2));
-    let mut i = 0;
-    while i < SOURCES {
-        s.sources[i] = source_from(b, SOURCES_FROM + SOURCE_SIZE * i);
-        i += 1;
+    Controller {
+        n: word_at(b, 0),
+        m: word_at(b, 2),
+        sources: array::from_fn(|i| source_at(b, i)),
+        cores: array::from_fn(|k| core_at(b, k)),
     }
-    let mut k = 0;
-    while k < CORES {
-        s.cores[k] = core_from(b, CORES_FROM + CORE_SIZE * k);
-        k += 1;
-    }
-    s
 }
 
 // Whether the three flags of the source at i are flags.
@@ -99,13 +91,7 @@ fn source_flags(b: &[u8], i: usize) -> bool
     requires { i + source_size ≤ length b.now }
     ensures { result ≡ source_flags b.now i }
 {
-    if 1 < b[i + SOURCE_MASKED] {
-        return false;
-    }
-    if 1 < b[i + SOURCE_PENDING] {
-        return false;
-    }
-    b[i + SOURCE_DELIVERED] <= 1
+    b[i + SOURCE_MASKED] <= 1 && b[i + SOURCE_PENDING] <= 1 && b[i + SOURCE_DELIVERED] <= 1
 }
 
 // Whether the two flags of the core at i are flags.
@@ -113,49 +99,32 @@ fn core_flags(b: &[u8], i: usize) -> bool
     requires { i + core_size ≤ length b.now }
     ensures { result ≡ core_flags b.now i }
 {
-    if 1 < b[i + BOX_FILLED] {
-        return false;
-    }
-    b[i + BOX_DIRTY] <= 1
+    b[i + BOX_FILLED] <= 1 && b[i + BOX_DIRTY] <= 1
 }
 
 // Whether the bytes encode a state: the length is right, and each flag is 0 or 1.
 pub fn is_state(b: &[u8]) -> bool
     ensures { result ≡ is_state b.now }
 {
-    if b.len() != STATE_SIZE {
-        return false;
-    }
-    let mut passed = 0;
-    while passed < SOURCES {
-        if !source_flags(b, SOURCES_FROM + SOURCE_SIZE * passed) {
-            return false;
-        }
-        passed += 1;
-    }
-    let mut cores_passed = 0;
-    while cores_passed < CORES {
-        if !core_flags(b, CORES_FROM + CORE_SIZE * cores_passed) {
-            return false;
-        }
-        cores_passed += 1;
-    }
-    true
+    b.len() == STATE_SIZE
+        && (0..SOURCES).all(|i| source_flags(b, SOURCES_FROM + SOURCE_SIZE * i))
+        && (0..CORES).all(|k| core_flags(b, CORES_FROM + CORE_SIZE * k))
 }
 
 // The command that three numbers name: its own, 0 to 7, the id or the core, and the priority. A number above 7 names none.
-pub fn command(number: u16, at: u16, p: u16) -> Decoded
+#[tactic(auto, unfolding(layout::specs::Commands::command_of))]
+pub fn command(number: u16, at: u16, p: u16) -> Option<Command>
     ensures { result ≡ command_of number at p }
 {
     match number {
-        0 => Decoded::Known(Command::OnSource(SourceId(at), SourceAction::SetSourcePriority(p))),
-        1 => Decoded::Known(Command::OnSource(SourceId(at), SourceAction::Mask)),
-        2 => Decoded::Known(Command::OnSource(SourceId(at), SourceAction::Unmask)),
-        3 => Decoded::Known(Command::OnCore(CoreId(at), CoreAction::SetCorePriority(p))),
-        4 => Decoded::Known(Command::OnSource(SourceId(at), SourceAction::Trigger)),
-        5 => Decoded::Known(Command::OnCore(CoreId(at), CoreAction::Claim)),
-        6 => Decoded::Known(Command::OnSource(SourceId(at), SourceAction::Redeliver)),
-        7 => Decoded::Known(Command::OnSource(SourceId(at), SourceAction::Complete)),
-        _ => Decoded::Unknown,
+        0 => Some(Command::OnSource(SourceId(at), SourceAction::SetSourcePriority(p))),
+        1 => Some(Command::OnSource(SourceId(at), SourceAction::Mask)),
+        2 => Some(Command::OnSource(SourceId(at), SourceAction::Unmask)),
+        3 => Some(Command::OnCore(CoreId(at), CoreAction::SetCorePriority(p))),
+        4 => Some(Command::OnSource(SourceId(at), SourceAction::Trigger)),
+        5 => Some(Command::OnCore(CoreId(at), CoreAction::Claim)),
+        6 => Some(Command::OnSource(SourceId(at), SourceAction::Redeliver)),
+        7 => Some(Command::OnSource(SourceId(at), SourceAction::Complete)),
+        _ => None,
     }
 }

@@ -1,64 +1,19 @@
--- Writing bytes: stores one after another are one run of stores, and runs written from the front make up a state's bytes.
--- Assumes nothing.
---   word_stores, source_written, core_written, answer_written, command_written    one record, from what each store and call leaves
+-- Writing bytes: runs of stores written from the front make up a state's bytes. Assumes nothing.
 --   Written, written_none, source_more, core_more                how far a state is written
 --   all_written                                                  past the last source and the last core the bytes are the state's
 use Prim.Native.Nat.{ℕ, ◌+◌, ◌*◌, ◌<◌, ◌≤◌}
 use mathlib.Core.Path.{◌≡◌, refl, sym, ◌∙◌, ap}
-use mathlib.Core.List.{List, [], ◌∷◌, ◌++◌, append-nil, append_assoc}
+use mathlib.Core.List.{List, [], ◌++◌, append-nil, append_assoc}
 use native.Mathlib.Omega.{arith}
-use native.Mathlib.Numerals.{add-one, towards_suc}
-use lib.ListN.{length, set, take}
+use lib.ListN.{length, take}
 use lib.Seq.{sets, length-sets, take_all}
-use Rattle.model.specs.declared.Source.{Source}
-use Rattle.model.specs.declared.Core.{Core}
 use Rattle.model.specs.declared.Controller.{Controller}
-use Rattle.model.specs.declared.Command.{Command}
 use Rattle.model.specs.Records.{max_sources, max_cores, no_source, no_core, source_at, core_at}
-use Rattle.layout.specs.Commands.{number_of, target_of, level_of}
-use Rattle.layout.specs.Bytes.{word, flag_byte, source_size, core_size, state_size, sources_from, cores_from, source_bytes, core_bytes, state_bytes}
-use Rattle.layout.specs.Bytes.{command_bytes}
+use Rattle.layout.specs.Bytes.{word, source_size, core_size, state_size, sources_from, cores_from, source_bytes, core_bytes, state_bytes}
 use Rattle.lists.specs.Rows.{joined}
 use Rattle.layout.specs.Statements.{Sized}
 use Rattle.lists.proofs.Writes.{take_sets}
 use Rattle.lists.proofs.Rows.{joined_more}
-
-module _ (b : List ℕ) (i : ℕ) where
-  pub word_stores : (x y : ℕ) → set (set b i x) (i + 1) y ≡ sets b i (x ∷ y ∷ [])
-  word_stores x y = rw add-one
-
-  -- ---- a source, a core and an answer, from what each store and call leaves
-
-  pub source_written :
-      (r : Source) (b₁ b₂ b₃ : List ℕ) (masked pending delivered : ℕ) →
-      b₁ ≡ sets b i (word r.configured) →
-      masked ≡ flag_byte r.masked → pending ≡ flag_byte r.pending → delivered ≡ flag_byte r.delivered →
-      b₂ ≡ sets (set (set (set b₁ (i + 2) masked) (i + 3) pending) (i + 4) delivered) (i + 5) (word r.priority) →
-      b₃ ≡ sets b₂ (i + 7) (word r.dropped) →
-      b₃ ≡ sets b i (source_bytes r)
-  source_written r b₁ b₂ b₃ masked pending delivered e₁ em ep ed e₂ e₃ = rw (e₃, e₂, em, ep, ed, e₁) (simp towards_suc)
-
-  pub core_written :
-      (c : Core) (b₁ b₂ b₃ : List ℕ) (filled dirty : ℕ) →
-      b₁ ≡ sets b i (word c.configured) →
-      filled ≡ flag_byte c.message.filled → dirty ≡ flag_byte c.message.dirty →
-      b₂ ≡ sets (set (set b₁ (i + 2) filled) (i + 3) dirty) (i + 4) (word c.message.source.0) →
-      b₃ ≡ sets b₂ (i + 6) (word c.message.priority) →
-      b₃ ≡ sets b i (core_bytes c)
-  core_written c b₁ b₂ b₃ filled dirty e₁ ef ed e₂ e₃ = rw (e₃, e₂, ef, ed, e₁) (simp towards_suc)
-
-  pub answer_written :
-      (number id cycles : ℕ) (b₁ b₂ : List ℕ) →
-      b₁ ≡ sets (set b i number) (i + 1) (word id) → b₂ ≡ sets b₁ (i + 3) (word cycles) →
-      b₂ ≡ sets b i (number ∷ (word id ++ word cycles))
-  answer_written number id cycles b₁ b₂ e₁ e₂ = rw (e₂, e₁) (simp towards_suc)
-
-  pub command_written :
-      (c : Command) (number target level : ℕ) (b₁ b₂ : List ℕ) →
-      number ≡ number_of c → target ≡ target_of c → level ≡ level_of c →
-      b₁ ≡ sets (set b i number) (i + 1) (word target) → b₂ ≡ sets b₁ (i + 3) (word level) →
-      b₂ ≡ sets b i (command_bytes c)
-  command_written c number target level b₁ b₂ en et el e₁ e₂ = rw (← en, ← et, ← el) (answer_written number target level b₁ b₂ e₁ e₂)
 
 -- ---- what is written from the front
 

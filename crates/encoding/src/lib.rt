@@ -29,14 +29,13 @@ pub fn put_word(b: &mut [u8], i: usize, x: u16)
     requires { i + 1 < length b.old }
     ensures { b.new ≡ sets b.old i (word x) }
 {
-    b[i] = (x % 256) as u8;
-    b[i + 1] = (x / 256) as u8;
+    [b[i], b[i + 1]] = x.to_le_bytes();
 }
 
 pub fn flag_byte(x: bool) -> u8
     ensures { result ≡ flag_byte x }
 {
-    if x { 1 } else { 0 }
+    u8::from(x)
 }
 
 fn put_source(b: &mut [u8], i: usize, r: Source)
@@ -84,19 +83,11 @@ pub fn put_state(b: &mut [u8], s: Controller)
 {
     put_word(b, 0, s.n);
     put_word(b, 2, s.m);
-    let mut written = 0;
-    while written < SOURCES {
-        put_source(b, SOURCES_FROM + SOURCE_SIZE * written, s.sources[written]);
-        written += 1;
+    for (i, r) in s.sources.iter().enumerate() {
+        put_source_at(b, i, *r);
     }
-    let mut cores_written = 0;
-    while cores_written < CORES {
-        put_core(
-            b,
-            CORES_FROM + CORE_SIZE * cores_written,
-            s.cores[cores_written],
-        );
-        cores_written += 1;
+    for (k, c) in s.cores.iter().enumerate() {
+        put_core_at(b, k, *c);
     }
 }
 
@@ -117,45 +108,25 @@ pub fn packed(number: u8, id: SourceId, cycles: u16) -> u64
     number as u64 + 256 * (id.0 as u64 + 65536 * (cycles as u64))
 }
 
-fn numbers_with(number: u8, target: u16, level: u16) -> Numbers
-    ensures { (result.number ≡ number) × (result.target ≡ target) × (result.level ≡ level) }
-{
-    Numbers {
-        number,
-        target,
-        level,
-    }
-}
+impl From<Command> for Numbers {
+    ghost from_gives = { λ c x. (x.number ≡ number_of c) × (x.target ≡ target_of c) × (x.level ≡ level_of c) };
 
-fn source_numbers(id: u16, a: SourceAction) -> Numbers
-    ensures { (result.number ≡ source_number a) × (result.target ≡ id) × (result.level ≡ source_level a) }
-{
-    match a {
-        SourceAction::SetSourcePriority(p) => numbers_with(0, id, p),
-        SourceAction::Mask => numbers_with(1, id, 0),
-        SourceAction::Unmask => numbers_with(2, id, 0),
-        SourceAction::Trigger => numbers_with(4, id, 0),
-        SourceAction::Redeliver => numbers_with(6, id, 0),
-        SourceAction::Complete => numbers_with(7, id, 0),
-    }
-}
-
-fn core_numbers(core: u16, a: CoreAction) -> Numbers
-    ensures { (result.number ≡ core_number a) × (result.target ≡ core) × (result.level ≡ core_level a) }
-{
-    match a {
-        CoreAction::SetCorePriority(p) => numbers_with(3, core, p),
-        CoreAction::Claim => numbers_with(5, core, 0),
-    }
-}
-
-// The numbers that name a command.
-fn numbers_of(c: Command) -> Numbers
-    ensures { (result.number ≡ number_of c) × (result.target ≡ target_of c) × (result.level ≡ level_of c) }
-{
-    match c {
-        Command::OnSource(id, a) => source_numbers(id.0, a),
-        Command::OnCore(k, a) => core_numbers(k.0, a),
+    fn from(c: Command) -> Numbers {
+        let (number, target, level) = match c {
+            Command::OnSource(id, SourceAction::SetSourcePriority(p)) => (0, id.0, p),
+            Command::OnSource(id, SourceAction::Mask) => (1, id.0, 0),
+            Command::OnSource(id, SourceAction::Unmask) => (2, id.0, 0),
+            Command::OnCore(k, CoreAction::SetCorePriority(p)) => (3, k.0, p),
+            Command::OnSource(id, SourceAction::Trigger) => (4, id.0, 0),
+            Command::OnCore(k, CoreAction::Claim) => (5, k.0, 0),
+            Command::OnSource(id, SourceAction::Redeliver) => (6, id.0, 0),
+            Command::OnSource(id, SourceAction::Complete) => (7, id.0, 0),
+        };
+        Numbers {
+            number,
+            target,
+            level,
+        }
     }
 }
 
@@ -164,7 +135,7 @@ pub fn put_command(b: &mut [u8], i: usize, c: Command)
     requires { i + command_size ≤ length b.old }
     ensures { b.new ≡ sets b.old i (command_bytes c) }
 {
-    let x = numbers_of(c);
+    let x = Numbers::from(c);
     b[i] = x.number;
     put_word(b, i + 1, x.target);
     put_word(b, i + 3, x.level);

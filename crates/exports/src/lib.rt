@@ -6,7 +6,6 @@
 ghost use Rattle.layout.specs.Bytes.{Does, make_call, execute_call, DoesRun, run_call};
 
 use layout::{COMMAND_SIZE, NO_COUNT, STATE_SIZE, UNREADABLE};
-use model::Decoded;
 
 // A fresh controller of n sources and m cores, written as bytes. Sizes out of range are refused by 2, and the buffer stays as it was.
 pub fn psic_make(n: u16, m: u16, state: &mut [u8]) -> u64
@@ -32,15 +31,13 @@ pub fn psic_execute(state: &mut [u8], number: u16, at: u16, priority: u16) -> u6
     if !decoding::is_state(state) {
         return UNREADABLE;
     }
-    match decoding::command(number, at, priority) {
-        Decoded::Unknown => UNREADABLE,
-        Decoded::Known(c) => {
-            let mut ranking = steps::begin(state);
-            let o = steps::step(state, &mut ranking, c);
-            let (number, id, cycles) = in_place::numbers_of(o);
-            encoding::packed(number, id, cycles)
-        }
-    }
+    let Some(c) = decoding::command(number, at, priority) else {
+        return UNREADABLE;
+    };
+    let mut ranking = steps::begin(state);
+    let o = steps::step(state, &mut ranking, c);
+    let (number, id, cycles) = in_place::numbers_of(o);
+    encoding::packed(number, id, cycles)
 }
 
 // A list of commands, 5 bytes each, from the state that the bytes encode; an answer of 5 bytes for each. A command with a number
@@ -61,14 +58,12 @@ pub fn psic_run(state: &mut [u8], list: &[u8], answers: &mut [u8]) -> u64
             decoding::word_at(list, i + 1),
             decoding::word_at(list, i + 3),
         );
-        match read {
-            Decoded::Unknown => return k as u64,
-            Decoded::Known(c) => {
-                let o = steps::step(state, &mut ranking, c);
-                let (number, id, cycles) = in_place::numbers_of(o);
-                encoding::put_answer(answers, i, number, id, cycles);
-            }
-        }
+        let Some(c) = read else {
+            return k as u64;
+        };
+        let o = steps::step(state, &mut ranking, c);
+        let (number, id, cycles) = in_place::numbers_of(o);
+        encoding::put_answer(answers, i, number, id, cycles);
     }
     count as u64
 }

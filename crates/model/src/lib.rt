@@ -90,13 +90,6 @@ pub enum Command {
     OnCore(CoreId, CoreAction),
 }
 
-// What three numbers name: a command, or none.
-#[derive(Clone, Copy)]
-pub enum Decoded {
-    Unknown,
-    Known(Command),
-}
-
 // Why a command is refused: document 01's "Numbers for no", and document 02's from 9 on. Answers hold the number; 0 is success.
 #[derive(Clone, Copy, Debug, PartialEq, Eq)]
 pub enum Refusal {

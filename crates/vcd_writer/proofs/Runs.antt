@@ -1,26 +1,25 @@
 -- The commands in a row of bytes, by the numbers at their places. Assumes nothing.
 --   names                             a number up to 7 names a command, with its values
---   CountedRun                        the commands before a place are counted, in the loop of `is_run`; none, one more
---   not_whole, run_stop, run_end      whether the bytes are a run
+--   small, run_numbers                the k-th number names one; whole commands are a run exactly if each does
 --   run_count, run_text, run_fit      of a run: how many commands, their text, and whether they can be written, from the numbers
 use Prim.Native.Nat.{ℕ, zero, suc, ◌+◌, ◌*◌, ◌/◌, ◌%◌, ◌<◌, ◌≤◌}
 use mathlib.Core.Path.{◌≡◌, refl, sym, ap, ◌∙◌}
 use mathlib.Core.List.{List, [], ◌∷◌, ◌++◌, append-nil, append_assoc}
-use mathlib.Core.Bool.{Bool, true, false, ◌&&◌, and-true, and_assoc}
+use mathlib.Core.Bool.{Bool, true, ◌&&◌, and-true, and_assoc}
 use lib.ListN.{length, get_or, drop}
 use lib.Dec.{leb}
-use native.Mathlib.Numerals.{add-one}
 use native.Mathlib.Omega.{arith}
-use borrow.Author.Tests.{eqb-true, leb-true, leb-false, eq-eqb, ne_eqb}
+use borrow.Author.Tests.{eqb-true, leb-true, leb-false, eq-eqb}
 use Rattle.lists.specs.Rows.{gather, joined}
 use Rattle.lists.specs.Walks.{every}
-use Rattle.lists.proofs.Bools.{Flag, on, off, flag}
+use Rattle.lists.proofs.Bools.{and_l, and_r, clash, refuted, confirmed, Flag, on, off, flag}
+use Rattle.lists.proofs.Walks.{every_in}
 use Rattle.model.specs.Records.{source_id, core_id}
 use Rattle.model.specs.declared.Command.{Command}
 use Rattle.model.specs.declared.Command.TheVariants.{OnSource, OnCore}
 use Rattle.model.specs.declared.SourceAction.TheVariants.{SetSourcePriority, Mask, Unmask, Trigger, Redeliver, Complete}
 use Rattle.model.specs.declared.CoreAction.TheVariants.{SetCorePriority, Claim}
-use Rattle.model.specs.declared.Decoded.TheVariants.{Known}
+use Rattle.std.specs.Prelude.{Some}
 use Rattle.layout.specs.Commands.{command_of, number_of, level_of}
 use Rattle.layout.specs.Bytes.{word_at, command_size, one_command, commands_in}
 use Rattle.layout.proofs.Commands.{unknown}
@@ -29,7 +28,8 @@ use Rattle.recording.specs.Words.{all}
 use Rattle.recording.specs.Declarations.{narrow}
 use Rattle.recording.specs.Writing.{core_value, arg_value, command_text, text_from, writable}
 use Rattle.recording.specs.Calls.{is_run}
-use Rattle.vcd_writer.specs.Lines.{core_of, arg_of, prio_of, value_lines, lines_of, lines_at, fits_at}
+use Rattle.vcd_writer.specs.declared.values.Numbers.{Numbers}
+use Rattle.vcd_writer.specs.Lines.{core_of, arg_of, prio_of, value_lines, lines_of, numbers_at, lines_at, fits_at}
 
 -- ---- three numbers
 
@@ -37,12 +37,15 @@ abbrev reads : ℕ → ℕ → ℕ → List Command
 reads number at p = one_command (command_of number at p)
 
 -- the command, its number, and what its variables hold: core, arg and prio
-abbrev Names : ℕ → ℕ → ℕ → Command → Type 0
-Names number at p c =
-    (command_of number at p ≡ Known c) × (number_of c ≡ number) × (core_value c ≡ core_of number at) × (arg_value c ≡ arg_of number at) ×
-    (level_of c ≡ prio_of number p)
+abbrev Names : Numbers → Command → Type 0
+Names n c =
+    (command_of n.number n.target n.level ≡ Some c) × (number_of c ≡ n.number) × (core_value c ≡ core_of n) × (arg_value c ≡ arg_of n) ×
+    (level_of c ≡ prio_of n)
 
-names : (number at p : ℕ) → number ≤ 7 → (c : Command) × Names number at p c
+abbrev numbers_of : ℕ → ℕ → ℕ → Numbers
+numbers_of number at p = record { number = number; target = at; level = p }
+
+names : (number at p : ℕ) → number ≤ 7 → (c : Command) × Names (numbers_of number at p) c
 unfolding command_of
 names zero at p h = (OnSource (source_id at) (SetSourcePriority p), (refl, refl, refl, refl, refl))
 names (suc zero) at p h = (OnSource (source_id at) Mask, (refl, refl, refl, refl, refl))
@@ -71,7 +74,7 @@ module _ (list : List ℕ) where
   level_at k = word_at list (command_size * k + 3)
 
   module _ (k : ℕ) (inside : command_size * k + command_size ≤ length list) where
-    one_more : (c : Command) → command_of (number_at k) (target_at k) (level_at k) ≡ Known c → from k ≡ c ∷ from (suc k)
+    one_more : (c : Command) → command_of (number_at k) (target_at k) (level_at k) ≡ Some c → from k ≡ c ∷ from (suc k)
     one_more c e =
         let next : command_size * k + command_size ≡ command_size * suc k = omega arith in
         fives_there reads list (command_size * k) inside (ap one_command e)
@@ -82,47 +85,6 @@ module _ (list : List ℕ) where
         fives_there reads list (command_size * k) inside
         (ap one_command (unknown (number_at k) (target_at k) (level_at k) h))
 
-  -- ---- whether it is a run
-
-  -- the bytes of the commands that are read
-  abbrev taken : ℕ
-  taken = command_size * length (commands_in list)
-
-  pub not_whole : (length list % command_size ≡ 0 → ⊥) → is_run list ≡ false
-  not_whole h = ne_eqb taken (length list) (λ e. h (omega arith))
-
-  pub record CountedRun (k : ℕ) : Type 0 where
-    pub whole : length list % command_size ≡ 0
-    pub within : command_size * k ≤ length list
-    pub counts : length (from k) + k ≡ length (commands_in list)
-
-  pub counted_run_none : length list % command_size ≡ 0 → CountedRun 0
-  counted_run_none e = record { whole = e; within = omega arith; counts = omega arith }
-
-  module _ (k : ℕ) (h : CountedRun k) (more : k < length list / command_size) where
-    inside : command_size * k + command_size ≤ length list
-    inside = omega arith
-
-    pub counted_run_one : number_at k ≤ 7 → CountedRun (k + 1)
-    counted_run_one small =
-        let c = names (number_at k) (target_at k) (level_at k) small in
-        let parts = one_more k inside c.0 c.1.0 in
-        record {
-          whole = h.whole;
-          within = omega arith;
-          counts = rw add-one (omega (arith, ap length parts, h.counts));
-        }
-
-    pub run_stop : 7 < number_at k → false ≡ is_run list
-    run_stop large =
-        let end : length (from k) ≡ 0 = ap length (none_more k inside large) in
-        sym (ne_eqb taken (length list) (λ e. omega (arith, h.counts)))
-
-  pub run_end : (k : ℕ) → CountedRun k → length list / command_size ≤ k → true ≡ is_run list
-  run_end k h past =
-      let none = fives_end reads list (command_size * k) (omega (arith, h.whole)) in
-      sym (eq-eqb taken (length list) (omega (arith, ap length none, h.counts, h.within, h.whole)))
-
   -- ---- of a run
 
   -- the commands before the k-th by their numbers, and those from it on
@@ -132,7 +94,7 @@ module _ (list : List ℕ) where
     fit : all (writable narrow) (commands_in list) ≡ every k (fits_at list) && all (writable narrow) (from k)
 
   module _ (k : ℕ) (h : Part k) (inside : command_size * k + command_size ≤ length list) where
-    module _ (c : Command) (is : Names (number_at k) (target_at k) (level_at k) c) where
+    module _ (c : Command) (is : Names (numbers_at list k) c) where
       same_lines : command_text k c ≡ lines_at list k
       unfolding command_text lines_of value_lines joined
       same_lines = rw (is.2, is.3, is.4, is.1)
@@ -167,18 +129,18 @@ module _ (list : List ℕ) where
   module _ (run : is_run list ≡ true) where
     parted : (k : ℕ) → command_size * k ≤ length list → Part k
     unfolding gather every
-    parted zero h = record { counts = omega (arith, eqb-true taken (length list) run); text = refl; fit = refl }
+    parted zero h = record { counts = omega (arith, eqb-true _ _ run); text = refl; fit = refl }
     parted (suc k) h = part_one k (parted k (omega arith)) (omega arith)
 
     abbrev n : ℕ
     n = length list / command_size
 
     pub run_count : length (commands_in list) ≡ n
-    run_count = omega (arith, eqb-true taken (length list) run)
+    run_count = omega (arith, eqb-true _ _ run)
 
     none_left : from n ≡ []
     none_left =
-        let past : length list ≤ command_size * n = omega (arith, eqb-true taken (length list) run) in
+        let past : length list ≤ command_size * n = omega (arith, eqb-true _ _ run) in
         fives_end reads list (command_size * n) past
 
     last : Part n
@@ -194,3 +156,36 @@ module _ (list : List ℕ) where
     run_fit =
         last.fit ∙ ap (λ (cs : List Command). every n (fits_at list) && all (writable narrow) cs) none_left
         ∙ and-true (every n (fits_at list))
+
+  -- ---- whether it is a run
+
+  -- the k-th number names a command
+  abbrev pub small : ℕ → Bool
+  small k = leb (number_at k) 7
+
+  -- those before the k-th are counted where each does
+  counted : (k : ℕ) → command_size * k ≤ length list → every k small ≡ true → length (from k) + k ≡ length (commands_in list)
+  unfolding every
+  counted zero h e = omega arith
+  counted (suc k) h e =
+      let few = leb-true (number_at k) 7 (and_r (every k small) (small k) e) in
+      let c = names (number_at k) (target_at k) (level_at k) few in
+      omega (arith, ap length (one_more k (omega arith) c.0 c.1.0), counted k (omega arith) (and_l (every k small) (small k) e))
+
+  is_counted : length list % command_size ≡ 0 → every (length list / command_size) small ≡ true → is_run list ≡ true
+  is_counted whole e =
+      let n = length list / command_size in
+      let none = fives_end reads list (command_size * n) (omega (arith, whole)) in
+      eq-eqb _ _ (omega (arith, ap length none, counted n (omega arith) e, whole))
+
+  all_small : is_run list ≡ true → (k : ℕ) → k < length list / command_size → small k ≡ true
+  all_small run k h =
+      confirmed (small k) (λ e.
+      omega (arith, (parted run k (omega arith)).counts, ap length (none_more k (omega arith) (leb-false (number_at k) 7 e))))
+
+  pub run_numbers : length list % command_size ≡ 0 → every (length list / command_size) small ≡ is_run list
+  run_numbers whole = go (flag (is_run list))
+    where
+      go : Flag (is_run list) → every (length list / command_size) small ≡ is_run list
+      go (on e) = every_in (length list / command_size) small (all_small e) ∙ sym e
+      go (off e) = refuted (every (length list / command_size) small) (λ all. clash (is_counted whole all) e) ∙ sym e

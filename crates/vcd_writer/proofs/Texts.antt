@@ -1,6 +1,4 @@
 -- The text of a row of commands, by the numbers in its bytes, a command at a time. Assumes nothing.
---   fit_placed, lines_placed                       of a command whose words are read
---   FitTo, fit_none, fit_one, fit_not, fit_all     the values of the first commands fit: none, one more, one that doesn't, all
 --   MeasuredTo, measured_none, measured_one        the length of the text of the first commands
 --   WrittenFrom                                    the text from a command on is written: the text before it, written too, gives the whole
 --   written_none, written_room, written_one        nothing is written; there is room for one more command; it is written
@@ -8,32 +6,18 @@
 use Prim.Native.Nat.{ℕ, suc, ◌+◌, ◌*◌, ◌^◌, ◌<◌, ◌≤◌}
 use mathlib.Core.Path.{◌≡◌, refl, sym, ap, ◌∙◌}
 use mathlib.Core.List.{List, ◌++◌, append-nil, append_assoc}
-use mathlib.Core.Bool.{Bool, true, false, not}
-use lib.ListN.{length, get_or, length-append}
+use lib.ListN.{length, length-append}
 use lib.Seq.{sets}
 use native.Mathlib.Numerals.{add-one}
 use native.Mathlib.Omega.{arith}
-use borrow.Author.Tests.{not-true, not-false}
 use Rattle.lists.specs.Rows.{gather, joined}
-use Rattle.lists.specs.Walks.{every}
-use Rattle.lists.proofs.Bools.{and_in, clash, refuted}
-use Rattle.lists.proofs.Walks.{every_out}
 use Rattle.lists.proofs.Writes.{sets_before}
-use Rattle.layout.specs.Bytes.{word_at, command_size}
 use Rattle.recording.specs.Declarations.{narrow}
 use Rattle.recording.specs.Writing.{digits, definition_text}
-use Rattle.vcd_writer.specs.Lines.{value_of, lines_of, fits_of, lines_at, fits_at, text_to, Room, Put}
+use Rattle.vcd_writer.specs.Lines.{lines_at, text_to, Room, Put}
 use Rattle.vcd_writer.proofs.Putting.{put_length}
 
 module _ (list : List ℕ) (k : ℕ) where
-  -- the words at the k-th place are read
-  module _ {x y : ℕ} (ex : x ≡ word_at list (command_size * k + 1)) (ey : y ≡ word_at list (command_size * k + 3)) where
-    pub fit_placed : fits_of (get_or list (command_size * k) 0) x y ≡ fits_at list k
-    fit_placed = rw (ex, ey)
-
-    pub lines_placed : lines_of (2 * k) (value_of (get_or list (command_size * k) 0) x y) ≡ lines_at list k
-    lines_placed = rw (ex, ey)
-
   text_more : text_to list (suc k) ≡ text_to list k ++ lines_at list k
   unfolding text_to gather
   text_more = sym (append_assoc (definition_text narrow) (gather k (lines_at list)) (lines_at list k))
@@ -44,32 +28,6 @@ module _ (list : List ℕ) (k : ℕ) where
 text_none : (list : List ℕ) → text_to list 0 ≡ definition_text narrow
 unfolding text_to gather
 text_none list = append-nil (definition_text narrow)
-
--- ---- whether all fit
-
-module _ (list : List ℕ) (count : ℕ) where
-  pub record FitTo (k : ℕ) : Type 0 where
-    pub within : k ≤ count
-    pub fit : every k (fits_at list) ≡ true
-
-  pub fit_none : FitTo 0
-  unfolding every
-  fit_none = record { within = omega arith; fit = refl }
-
-  module _ (k : ℕ) (h : FitTo k) where
-    pub fit_one : {r : Bool} → k < count → r ≡ fits_at list k → not r ≡ false → FitTo (k + 1)
-    unfolding every
-    fit_one {r} more e passed =
-        record { within = omega arith; fit = rw add-one (and_in h.fit (sym e ∙ not-false r passed)) }
-
-    pub fit_not : {r : Bool} → k < count → r ≡ fits_at list k → not r ≡ true → false ≡ every count (fits_at list)
-    fit_not {r} more e failed =
-        sym (refuted (every count (fits_at list)) (λ all. clash (every_out count (fits_at list) all k more) (sym e ∙ not-true r failed)))
-
-    pub fit_all : count ≤ k → true ≡ every count (fits_at list)
-    fit_all past =
-        let end : k ≡ count = omega (arith, h.within) in
-        sym (ap (λ (n : ℕ). every n (fits_at list)) (sym end) ∙ h.fit)
 
 -- ---- its length
 

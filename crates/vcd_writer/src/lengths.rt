@@ -3,7 +3,7 @@ ghost use Rattle.std.specs.Prelude.{suc, ◌*◌, ◌^◌, ◌<◌, ◌≤◌, �
 ghost use Rattle.recording.specs.Writing.{digits};
 ghost use Rattle.vcd_writer.specs.Lines.{lines_of, value_of};
 
-use crate::values;
+use crate::values::Numbers;
 
 // How many digits a number has.
 fn count_digits(base: u32, x: u32) -> usize
@@ -13,21 +13,21 @@ fn count_digits(base: u32, x: u32) -> usize
     let mut n = 1;
     let mut rest = x;
     while base <= rest {
-        rest = rest / base;
+        rest /= base;
         n += 1;
     }
     n
 }
 
 // The length of the lines of the k-th command. All but the digits are 26 bytes; both times have as many digits.
-pub fn command_length(k: u32, number: u8, target: u16, level: u16) -> usize
+pub fn command_length(k: u32, numbers: Numbers) -> usize
     requires { k < 2 ^ 16 }
-    ensures { (result ≡ length (lines_of (2 * k) (value_of number target level))) × (result < 2 ^ 20) }
+    ensures { (result ≡ length (lines_of (2 * k) (value_of numbers))) × (result < 2 ^ 20) }
 {
     let time = count_digits(10, 2 * k);
-    let cmd = count_digits(2, number as u32);
-    let core = count_digits(2, values::core(number, target) as u32);
-    let arg = count_digits(2, values::arg(number, target) as u32);
-    let prio = count_digits(2, values::prio(number, level) as u32);
+    let cmd = count_digits(2, numbers.number as u32);
+    let core = count_digits(2, numbers.core() as u32);
+    let arg = count_digits(2, numbers.arg() as u32);
+    let prio = count_digits(2, numbers.prio() as u32);
     26 + 2 * time + cmd + core + arg + prio
 }

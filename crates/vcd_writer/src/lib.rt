@@ -16,27 +16,21 @@ ghost use Rattle.recording.specs.Calls.{is_run, write_call, DoesWrite};
 ghost use Rattle.vcd_writer.specs.Lines.{fits_at, text_to};
 
 use layout::{COMMAND_SIZE, UNREADABLE};
+use values::Numbers;
 
 const NOT_WRITABLE: u64 = 15;
 
 const MAX_COMMANDS: usize = 65535;
 
+// The largest number that names a command.
+const LAST_NUMBER: u8 = 7;
+
 // Whether the bytes are whole commands, each of a number that names one.
 fn is_run(list: &[u8]) -> bool
     ensures { result ≡ is_run list.now }
 {
-    if list.len() % COMMAND_SIZE != 0 {
-        return false;
-    }
-    let count = list.len() / COMMAND_SIZE;
-    let mut k = 0;
-    while k < count {
-        if 7 < list[COMMAND_SIZE * k] {
-            return false;
-        }
-        k += 1;
-    }
-    true
+    list.len() % COMMAND_SIZE == 0
+        && (0..list.len() / COMMAND_SIZE).all(|k| list[COMMAND_SIZE * k] <= LAST_NUMBER)
 }
 
 // Whether every value that one of the first commands uses fits its variable.
@@ -44,19 +38,7 @@ fn all_fit(list: &[u8], count: usize) -> bool
     requires { command_size * count ≤ length list.now }
     ensures { result ≡ every count (fits_at list.now) }
 {
-    let mut k = 0;
-    while k < count {
-        let at = COMMAND_SIZE * k;
-        if !values::fit(
-            list[at],
-            decoding::word_at(list, at + 1),
-            decoding::word_at(list, at + 3),
-        ) {
-            return false;
-        }
-        k += 1;
-    }
-    true
+    (0..count).all(|k| Numbers::at(list, k).fit())
 }
 
 // The length of the text of the first commands.
@@ -64,17 +46,9 @@ fn text_length(list: &[u8], count: usize) -> usize
     requires { (command_size * count ≤ length list.now) × (count ≤ max_commands) }
     ensures { (result ≡ length (text_to list.now count)) × (result < 2 ^ 56) }
 {
-    let mut k = 0;
-    let mut sum = lines::DEFINITIONS;
-    while k < count {
-        let at = COMMAND_SIZE * k;
-        sum += lengths::command_length(
-            k as u32,
-            list[at],
-            decoding::word_at(list, at + 1),
-            decoding::word_at(list, at + 3),
-        );
-        k += 1;
+    let mut sum = lines::DEFINITIONS.len();
+    for k in 0..count {
+        sum += lengths::command_length(k as u32, Numbers::at(list, k));
     }
     sum
 }
@@ -85,19 +59,9 @@ fn put_text(list: &[u8], count: usize, text: &mut [u8], size: usize)
         × (size ≡ length (text_to list.now count)) × (size ≤ length text.old) }
     ensures { text.new ≡ sets text.old 0 (text_to list.now count) }
 {
-    let mut k = count;
     let mut end = size;
-    while 0 < k {
-        k -= 1;
-        let at = COMMAND_SIZE * k;
-        end = lines::put_command(
-            text,
-            end,
-            2 * (k as u32),
-            list[at],
-            decoding::word_at(list, at + 1),
-            decoding::word_at(list, at + 3),
-        );
+    for k in (0..count).rev() {
+        end = lines::put_command(text, end, 2 * (k as u32), Numbers::at(list, k));
     }
     lines::put_definitions(text);
 }
@@ -112,10 +76,7 @@ pub fn psic_write(list: &[u8], text: &mut [u8]) -> u64
         return UNREADABLE;
     }
     let count = list.len() / COMMAND_SIZE;
-    if MAX_COMMANDS < count {
-        return NOT_WRITABLE;
-    }
-    if !all_fit(list, count) {
+    if count > MAX_COMMANDS || !all_fit(list, count) {
         return NOT_WRITABLE;
     }
     let size = text_length(list, count);

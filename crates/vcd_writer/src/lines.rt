@@ -6,10 +6,12 @@ ghost use Rattle.recording.specs.Declarations.{narrow};
 ghost use Rattle.recording.specs.Writing.{numeral_bytes, time_line, definition_text};
 ghost use Rattle.vcd_writer.specs.Lines.{Room, Put, vector_of, value_of, value_lines, lines_of};
 
-use crate::values;
+use crate::values::Numbers;
 
-// The length of the definitions.
-pub const DEFINITIONS: usize = 197;
+// The definitions.
+pub const DEFINITIONS: &[u8] = b"$timescale 1 ns $end\n$scope module psic $end\n\
+      $var wire 1 ! stb $end\n$var wire 3 \" cmd $end\n$var wire 5 # core $end\n$var wire 8 $ arg $end\n$var wire 9 % prio $end\n\
+      $upscope $end\n$enddefinitions $end\n";
 
 // A mark and the digits of a number.
 fn put_numeral(text: &mut [u8], end: usize, mark: u8, base: u32, x: u32) -> usize
@@ -20,7 +22,7 @@ fn put_numeral(text: &mut [u8], end: usize, mark: u8, base: u32, x: u32) -> usiz
     let mut rest = x;
     while base <= rest {
         text[at] = b'0' + ((rest % base) as u8);
-        rest = rest / base;
+        rest /= base;
         at -= 1;
     }
     text[at] = b'0' + (rest as u8);
@@ -60,45 +62,26 @@ fn put_time(text: &mut [u8], end: usize, t: u32) -> usize
 }
 
 // The values of a command, a vector each.
-fn put_values(text: &mut [u8], end: usize, number: u8, target: u16, level: u16) -> usize
-    requires { Room (value_lines (value_of number target level)) end text.old }
-    ensures { Put text.old end (value_lines (value_of number target level)) result text.new }
+fn put_values(text: &mut [u8], end: usize, numbers: Numbers) -> usize
+    requires { Room (value_lines (value_of numbers)) end text.old }
+    ensures { Put text.old end (value_lines (value_of numbers)) result text.new }
 {
-    let prio = put_vector(text, end, b'%', values::prio(number, level));
-    let arg = put_vector(text, prio, b'$', values::arg(number, target));
-    let core = put_vector(text, arg, b'#', values::core(number, target));
-    put_vector(text, core, b'"', number as u16)
+    let prio = put_vector(text, end, b'%', numbers.prio());
+    let arg = put_vector(text, prio, b'$', numbers.arg());
+    let core = put_vector(text, arg, b'#', numbers.core());
+    put_vector(text, core, b'"', numbers.number as u16)
 }
 
 // The lines of a command: up in the stamp of a time, down in the next.
-pub fn put_command(
-    text: &mut [u8],
-    end: usize,
-    time: u32,
-    number: u8,
-    target: u16,
-    level: u16,
-) -> usize
-    requires { (time < 2 ^ 17) × Room (lines_of time (value_of number target level)) end text.old }
-    ensures { Put text.old end (lines_of time (value_of number target level)) result text.new }
+pub fn put_command(text: &mut [u8], end: usize, time: u32, numbers: Numbers) -> usize
+    requires { (time < 2 ^ 17) × Room (lines_of time (value_of numbers)) end text.old }
+    ensures { Put text.old end (lines_of time (value_of numbers)) result text.new }
 {
     let down = put_ending(text, end, b'0', b'!');
     let next = put_time(text, down, time + 1);
     let up = put_ending(text, next, b'1', b'!');
-    let values = put_values(text, up, number, target, level);
+    let values = put_values(text, up, numbers);
     put_time(text, values, time)
-}
-
-// All bytes of one slice in the front of another.
-fn copy(text: &mut [u8], bytes: &[u8])
-    requires { length bytes.now ≤ length text.old }
-    ensures { text.new ≡ sets text.old 0 bytes.now }
-{
-    let mut i = 0;
-    while i < bytes.len() {
-        text[i] = bytes[i];
-        i += 1;
-    }
 }
 
 // The definitions, in the front of the buffer.
@@ -106,10 +89,5 @@ pub fn put_definitions(text: &mut [u8])
     requires { length (definition_text narrow) ≤ length text.old }
     ensures { text.new ≡ sets text.old 0 (definition_text narrow) }
 {
-    copy(
-        text,
-        b"$timescale 1 ns $end\n$scope module psic $end\n\
-          $var wire 1 ! stb $end\n$var wire 3 \" cmd $end\n$var wire 5 # core $end\n$var wire 8 $ arg $end\n$var wire 9 % prio $end\n\
-          $upscope $end\n$enddefinitions $end\n",
-    );
+    text[..DEFINITIONS.len()].copy_from_slice(DEFINITIONS);
 }

@@ -1,47 +1,81 @@
-// What a command's variables hold, from its three numbers: its own, the id or the core, and the priority. What isn't used is 0.
-ghost use Rattle.std.specs.Prelude.{◌≡◌};
-ghost use Rattle.recording.specs.Stamps.{uses_core};
-ghost use Rattle.vcd_writer.specs.Lines.{core_of, arg_of, prio_of, fits_of};
+// A command by its three numbers, and what its variables hold. What isn't used is 0.
+ghost use Rattle.std.specs.Prelude.{◌+◌, ◌*◌, ◌≤◌, ◌≡◌, length};
+ghost use Rattle.layout.specs.Bytes.{command_size};
+ghost use Rattle.recording.specs.Stamps.{uses_core, uses_priority};
+ghost use Rattle.vcd_writer.specs.Lines.{numbers_at, core_of, arg_of, prio_of, fits_of};
 
-fn uses_core(number: u8) -> bool
-    ensures { result ≡ uses_core number }
-{
-    if number == 3 {
-        return true;
-    }
-    number == 5
+use layout::COMMAND_SIZE;
+
+// The commands that use core and prio, by their own numbers.
+const SET_SOURCE_PRIORITY: u8 = 0;
+
+const SET_CORE_PRIORITY: u8 = 3;
+
+const CLAIM: u8 = 5;
+
+// How many values the bits of core, arg and prio hold.
+const CORE_VALUES: u16 = 1 << 5;
+
+const ARG_VALUES: u16 = 1 << 8;
+
+const PRIO_VALUES: u16 = 1 << 9;
+
+// The numbers of a command: its own, the id or the core, and the priority.
+#[derive(Clone, Copy)]
+pub struct Numbers {
+    pub number: u8,
+    pub target: u16,
+    pub level: u16,
 }
 
-pub fn core(number: u8, target: u16) -> u16
-    ensures { result ≡ core_of number target }
-{
-    if uses_core(number) { target } else { 0 }
-}
-
-pub fn arg(number: u8, target: u16) -> u16
-    ensures { result ≡ arg_of number target }
-{
-    if uses_core(number) { 0 } else { target }
-}
-
-pub fn prio(number: u8, level: u16) -> u16
-    ensures { result ≡ prio_of number level }
-{
-    if number == 0 {
-        return level;
+impl Numbers {
+    // Those in the bytes of the k-th command of a list.
+    pub fn at(list: &[u8], k: usize) -> Numbers
+        requires { command_size * k + command_size ≤ length list.now }
+        ensures { result ≡ numbers_at list.now k }
+    {
+        let at = COMMAND_SIZE * k;
+        Numbers {
+            number: list[at],
+            target: decoding::word_at(list, at + 1),
+            level: decoding::word_at(list, at + 3),
+        }
     }
-    if number == 3 { level } else { 0 }
-}
 
-// Whether each fits its variable: core has 5 bits, arg 8, prio 9.
-pub fn fit(number: u8, target: u16, level: u16) -> bool
-    ensures { result ≡ fits_of number target level }
-{
-    if 32 <= core(number, target) {
-        return false;
+    fn uses_core(self) -> bool
+        ensures { result ≡ uses_core self.number }
+    {
+        matches!(self.number, SET_CORE_PRIORITY | CLAIM)
     }
-    if 256 <= arg(number, target) {
-        return false;
+
+    fn uses_priority(self) -> bool
+        ensures { result ≡ uses_priority self.number }
+    {
+        matches!(self.number, SET_SOURCE_PRIORITY | SET_CORE_PRIORITY)
     }
-    prio(number, level) < 512
+
+    pub fn core(self) -> u16
+        ensures { result ≡ core_of self }
+    {
+        if self.uses_core() { self.target } else { 0 }
+    }
+
+    pub fn arg(self) -> u16
+        ensures { result ≡ arg_of self }
+    {
+        if self.uses_core() { 0 } else { self.target }
+    }
+
+    pub fn prio(self) -> u16
+        ensures { result ≡ prio_of self }
+    {
+        if self.uses_priority() { self.level } else { 0 }
+    }
+
+    // Whether each value fits its variable.
+    pub fn fit(self) -> bool
+        ensures { result ≡ fits_of self }
+    {
+        self.core() < CORE_VALUES && self.arg() < ARG_VALUES && self.prio() < PRIO_VALUES
+    }
 }

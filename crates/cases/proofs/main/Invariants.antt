@@ -1,13 +1,7 @@
--- `cases::main` is safe and ends. The loop's invariant: i is at most the number of rows. Assumes nothing.
-use Rattle.std.proofs.Common.{ℕ, ◌≤◌, ◌-◌}
+-- `cases::main` is safe and ends. The loop's invariant: no more rows are marked than were run, and no more are good than marked.
+-- Assumes nothing.
+use Rattle.std.proofs.Common.{◌≤◌}
 use Rattle.cases.proofs.main.Given as goal
 
--- as many rows as the script has
-abbrev rows : ℕ
-rows = 59
-
-abbrev pub invariant-loop-i : goal.invariant-loop-i
-invariant-loop-i l = l.i ≤ rows
-
-abbrev pub decreases-loop-i : goal.decreases-loop-i
-decreases-loop-i l = rows - l.i
+abbrev pub invariant-loop-step : goal.invariant-loop-step
+invariant-loop-step l = (l.marked ≤ l.step-index) × (l.good ≤ l.marked)

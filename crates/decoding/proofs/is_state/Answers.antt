@@ -1,46 +1,45 @@
--- `decoding::is_state` meets its contract: both loops keep `Flagged`, that the flags of the records passed are flags. Assumes nothing.
-use mathlib.Core.Path.{sym, ◌∙◌}
-use Rattle.std.proofs.Common.{arith}
-use Rattle.decoding.proofs.Flags.{wrong_size, no_source_flags, no_core_flags, flagged_none, flagged_source, flagged_core}
-use Rattle.decoding.proofs.Flags.{all_flagged}
+-- `decoding::is_state` meets its contract: each `all` over a range is the test of each number below its end. Assumes nothing.
+use Rattle.std.proofs.Common.{◌≡◌, true, false, refl, sym, ◌∙◌, rules}
+use mathlib.Core.Bool.{true≢false}
+use borrow.Author.Tests.{tests, ne_eqb}
+use Rattle.std.proofs.lemmas.Iterator.{YieldsList-from_range}
+use Rattle.std.proofs.lemmas.Iterator.Search.{all_from_yields_List}
+use Rattle.model.specs.Records.{max_sources, max_cores}
+use Rattle.lists.specs.Walks.{every}
+use Rattle.layout.specs.Bytes.{source_flags_of, core_flags_of}
+use Rattle.decoding.proofs.Flags.{every_all, wrong_size, right_size}
 use Rattle.decoding.proofs.is_state.Goals as goal
+use Rattle.decoding.proofs.is_state.Goals.{then-b-eq-STATE_SIZE, else-b-eq-STATE_SIZE}
 
-pub returns-then-b-ne-STATE_SIZE : goal.returns-then-b-ne-STATE_SIZE
-returns-then-b-ne-STATE_SIZE c = wrong_size c.args.b.now c.if-b-ne-STATE_SIZE.true
+pub returns-then-all : goal.returns-then-all
+returns-then-all c =
+    let b = c.args.b.now in
+    let cores : c.all-then-all.result ≡ every max_cores (core_flags_of b)
+    = all_from_yields_List (core_flags_of b) _ _ c.all-then-all.result c.all-then-all.ensures.ran
+    (YieldsList-from_range 0 max_cores max_cores refl refl) (λ x v q k. search (rules, tests))
+    ∙ every_all max_cores (core_flags_of b) in
+    elim c.if-b-eq-STATE_SIZE.branch [
+      | then-b-eq-STATE_SIZE w ↦
+          right_size b w.if-b-eq-STATE_SIZE.true true c.all-then-all.result
+          (sym c.if-all.true ∙ w.value-is
+          ∙ all_from_yields_List (source_flags_of b) _ _ w.all.result w.all.ensures.ran
+          (YieldsList-from_range 0 max_sources max_sources refl refl) (λ x v q k. search (rules, tests))
+          ∙ every_all max_sources (source_flags_of b))
+          cores
+      | else-b-eq-STATE_SIZE w ↦ absurd (true≢false (sym c.if-all.true ∙ w.value-is ∙ ne_eqb _ _ w.if-b-eq-STATE_SIZE.false))
+    ]
 
-pub loop-passed-init : goal.loop-passed-init
-loop-passed-init c = flagged_none c.args.b.now c.if-b-ne-STATE_SIZE.false
-
-pub returns-then-not-source_flags : goal.returns-then-not-source_flags
-returns-then-not-source_flags c =
-    let tested = c.source_flags in
-    no_source_flags c.args.b.now c.loop-passed.passed
-    (omega arith)
-    (sym tested.ensures ∙ c.if-not-source_flags.true)
-
-pub loop-passed-preserved : goal.loop-passed-preserved
-loop-passed-preserved c =
-    let l = c.loop-passed in
-    let tested = c.source_flags in
-    flagged_source c.args.b.now l.passed 0 l.invariant (omega arith)
-    (sym tested.ensures ∙ c.if-not-source_flags.false)
-
-pub returns-then-not-core_flags : goal.returns-then-not-core_flags
-returns-then-not-core_flags c =
-    let tested = c.core_flags in
-    no_core_flags c.args.b.now
-    c.loop-cores_passed.cores_passed (omega arith) (sym tested.ensures ∙ c.if-not-core_flags.true)
-
-pub loop-cores_passed-preserved : goal.loop-cores_passed-preserved
-loop-cores_passed-preserved c =
-    let l = c.loop-cores_passed in
-    let tested = c.core_flags in
-    flagged_core c.args.b.now
-    c.loop-passed.passed l.cores_passed l.invariant (omega arith)
-    (sym tested.ensures ∙ c.if-not-core_flags.false)
-
-pub returns : goal.returns
-returns c =
-    let l = c.loop-cores_passed in
-    all_flagged c.args.b.now c.loop-passed.passed
-    l.cores_passed l.invariant c.loop-passed-test.false c.loop-cores_passed-test.false
+pub returns-else-all : goal.returns-else-all
+returns-else-all c =
+    let b = c.args.b.now in
+    c.if-all.false
+    ∙ elim c.if-b-eq-STATE_SIZE.branch [
+      | then-b-eq-STATE_SIZE w ↦
+          right_size b w.if-b-eq-STATE_SIZE.true false (every max_cores (core_flags_of b))
+          (sym c.if-all.false ∙ w.value-is
+          ∙ all_from_yields_List (source_flags_of b) _ _ w.all.result w.all.ensures.ran
+          (YieldsList-from_range 0 max_sources max_sources refl refl) (λ x v q k. search (rules, tests))
+          ∙ every_all max_sources (source_flags_of b))
+          refl
+      | else-b-eq-STATE_SIZE w ↦ wrong_size b w.if-b-eq-STATE_SIZE.false
+    ]

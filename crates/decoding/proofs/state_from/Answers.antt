@@ -1,10 +1,17 @@
--- `decoding::state_from` meets its contract: both loops keep `ReadTo`, that the records passed are those that the bytes encode.
--- Assumes nothing.
-use Rattle.decoding.proofs.Reading.{all_read}
+-- `decoding::state_from` meets its contract: each array is that of what is read at its indices. Assumes nothing.
+use Rattle.std.proofs.Common.{rules}
+use Rattle.model.specs.Records.{max_sources, max_cores, no_source, no_core}
+use Rattle.layout.specs.Bytes.{source_of, core_of, state_from}
+use Rattle.decoding.proofs.Reading.{made}
 use Rattle.decoding.proofs.state_from.Goals as goal
 
 pub returns : goal.returns
+unfolding state_from
 returns c =
-    let l = c.loop-k in
-    all_read c.args.b.now l.s c.loop-i.i
-    l.k l.invariant c.loop-i-test.false c.loop-k-test.false
+    let b = c.args.b.now in
+    rw (
+      c.word_at.ensures,
+      c.word_at-2.ensures,
+      made _ _ (source_of b) (λ i y q k. search rules) c.from_fn.result no_source max_sources c.from_fn.ensures.items,
+      made _ _ (core_of b) (λ i y q k. search rules) c.from_fn-2.result no_core max_cores c.from_fn-2.ensures.items,
+    )

@@ -29,18 +29,18 @@ loop-k-preserved c =
     let went = c.step-o.ensures in
     let i = command_size * l.k in
     let read = fives_read read_command c.args.list.now i c.word_at.ensures c.word_at-in-loop-k.ensures
-    (ap one_command (sym c.command-read.ensures ∙ c.in-Known.is)) in
+    (ap one_command (sym c.command-read.ensures ∙ c.in-Some.is)) in
     let said = says_same _ c.numbers_of-number.ensures went.says in
     let next : i + command_size ≡ command_size * (l.k + 1) = omega arith in
     (rw next at (run_more l.invariant.0 (omega arith) read went.state_is c.put_answer.ensures (same_bytes_lem said)), went.going)
 
 -- the next bytes name no command
-pub returns-in-Unknown : goal.returns-in-Unknown
-returns-in-Unknown c =
+pub returns-in_default : goal.returns-in_default
+returns-in_default c =
     let a = c.args in
     let l = c.loop-k in
     let read = fives_read read_command a.list.now (command_size * l.k) c.word_at.ensures c.word_at-in-loop-k.ensures
-    (ap one_command (sym c.command-read.ensures ∙ c.in-Unknown.is)) in
+    (ap one_command (sym c.command-read.ensures ∙ c.in_default.is)) in
     run_ran a.state.now a.list.now a.answers.now (sym c.is_state.ensures ∙ c.if-not-is_state.false)
     (run_stop l.invariant.0 (omega arith) read) (omega arith) l.invariant.1.whole
 

@@ -18,7 +18,7 @@ returns c =
     let core = c.count_digits-core.ensures.0 ∙ ap bits c.core.ensures in
     let arg = c.count_digits-arg.ensures.0 ∙ ap bits c.arg.ensures in
     let prio = c.count_digits-prio.ensures.0 ∙ ap bits c.prio.ensures in
-    let all = lines_length a.k (value_of a.number a.target a.level) in (
+    let all = lines_length a.k (value_of a.numbers) in (
       omega (arith, c.count_digits-time.ensures.0, c.count_digits-cmd.ensures.0, core, arg, prio, all),
       omega arith,
     )

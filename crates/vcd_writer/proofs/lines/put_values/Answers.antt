@@ -8,18 +8,18 @@ use Rattle.vcd_writer.proofs.lines.put_values.Goals as goal
 
 pub put_vector-prio-requires : goal.put_vector-prio-requires
 put_vector-prio-requires c =
-    let values = value_of c.args.number c.args.target c.args.level in
+    let values = value_of c.args.numbers in
     value_room 37 c.prio.ensures put_none (prio_left values c.requires)
 
 pub put_vector-arg-requires : goal.put_vector-arg-requires
 put_vector-arg-requires c =
-    let values = value_of c.args.number c.args.target c.args.level in
+    let values = value_of c.args.numbers in
     let prio = value_put 37 c.prio.ensures put_none c.put_vector-prio.ensures in
     value_room 36 c.arg.ensures prio (arg_left values c.requires)
 
 pub put_vector-core-requires : goal.put_vector-core-requires
 put_vector-core-requires c =
-    let values = value_of c.args.number c.args.target c.args.level in
+    let values = value_of c.args.numbers in
     let prio = value_put 37 c.prio.ensures put_none c.put_vector-prio.ensures in
     let arg = value_put 36 c.arg.ensures prio c.put_vector-arg.ensures in
     value_room 35 c.core.ensures arg (core_left values c.requires)

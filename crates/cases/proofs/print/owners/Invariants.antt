@@ -1,9 +1,0 @@
--- `cases::print::owners` is safe and ends. The loop's invariant: i is at most n. Assumes nothing.
-use Rattle.std.proofs.Common.{◌≤◌, ◌-◌}
-use Rattle.cases.proofs.print.owners.Given as goal
-
-abbrev pub invariant-loop-i : goal.invariant-loop-i
-invariant-loop-i t l = l.i ≤ l.n
-
-abbrev pub decreases-loop-i : goal.decreases-loop-i
-decreases-loop-i t l = l.n - l.i
