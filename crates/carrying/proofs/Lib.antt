@@ -1,3 +1,5 @@
--- What the proofs of the test cite.
+-- What the proofs of reading and writing cite.
 --   Flags      the test of what is carried
+--   Numbers    numbers written as bytes
 mod Flags
+mod Numbers

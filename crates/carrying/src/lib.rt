@@ -6,41 +6,50 @@ ghost use Rattle.std.specs.Prelude.{◌+◌, ◌≤◌, ◌≡◌, not, length};
 ghost use Rattle.std.proofs.lemmas.List.Edits.{sets};
 ghost use Rattle.layout.specs.Bytes.{is_flag_at};
 ghost use Rattle.recording.specs.Words.{all, separator};
-ghost use Rattle.recording.specs.Carrying.{low_bytes, number_at, place_number, place_of, value_bytes, value_from, variable_bytes, variable_from};
+ghost use Rattle.recording.specs.Carrying.{low_bytes, number_at, place_of, value_bytes, value_from, variable_bytes, variable_from};
 ghost use Rattle.recording.specs.Carrying.{variables_bytes, variables_from, pending_bytes, pending_from, stamp_bytes, stamp_from, fault_bytes};
-ghost use Rattle.recording.specs.Carrying.{fault_from, reader_bytes, reader_from, carried_size, reader_flags, is_carried};
-ghost use Rattle.vcd_words.specs.Partial.{between};
+ghost use Rattle.recording.specs.Carrying.{fault_from, reader_bytes, reader_from, carried_size, reader_flags, is_carried, variable_size};
+ghost use Rattle.carrying.specs.Sizes.{value_size, variables_size, pending_size, stamp_size, fault_size};
 
 use decoding::word_at;
 use encoding::{flag_byte, put_word};
 use recording::{Fault, Pending, Place, Reader, Stamp, Value, Variable, Variables};
 use vcd_words::{readers, scanning};
 
+// The bytes of a number of 64 bits, of a value and of a variable, and where the value lies in a variable and in what is under way.
+const NUMBER_SIZE: usize = 8;
+
+const VALUE_SIZE: usize = 3;
+
+const VARIABLE_VALUE: usize = 5;
+
+const VARIABLE_SIZE: usize = VARIABLE_VALUE + VALUE_SIZE;
+
+const PENDING_VALUE: usize = 6;
+
 // Where the parts of a reader begin, behind its place: what is under way, the variables, the stamp, the commands taken, the fault.
 const PENDING_AT: usize = 1;
 
-const VARIABLES_AT: usize = 10;
+const VARIABLES_AT: usize = PENDING_AT + PENDING_VALUE + VALUE_SIZE;
 
-const STAMP_AT: usize = 50;
+const STAMP_AT: usize = VARIABLES_AT + 5 * VARIABLE_SIZE;
 
-const COMMANDS_AT: usize = 60;
+const COMMANDS_AT: usize = STAMP_AT + 2 + NUMBER_SIZE;
 
-const FAULT_AT: usize = 62;
+const FAULT_AT: usize = COMMANDS_AT + 2;
 
-const VARIABLE_SIZE: usize = 8;
-
-const LAST_PLACE: u8 = 12;
+const LAST_PLACE: u8 = Place::BlockCode as u8;
 
 // Where the mark of the end stands, the bytes taken, the offset of the word under way, its length, and its bytes.
-pub const ENDED_AT: usize = 71;
+pub const ENDED_AT: usize = FAULT_AT + 1 + NUMBER_SIZE;
 
-pub const TAKEN_AT: usize = 72;
+pub const TAKEN_AT: usize = ENDED_AT + 1;
 
-pub const FROM_AT: usize = 80;
+pub const FROM_AT: usize = TAKEN_AT + NUMBER_SIZE;
 
-pub const LENGTH_AT: usize = 88;
+pub const LENGTH_AT: usize = FROM_AT + NUMBER_SIZE;
 
-pub const BYTES_AT: usize = 90;
+pub const BYTES_AT: usize = LENGTH_AT + 2;
 
 // The most bytes of a word that are carried, and all that is.
 pub const MOST_KEPT: usize = 256;
@@ -54,35 +63,34 @@ fn code_at(b: &[u8], i: usize) -> u32
     requires { i + 4 ≤ length b.now }
     ensures { result ≡ number_at 4 b.now i }
 {
-    word_at(b, i) as u32 + 65536 * (word_at(b, i + 2) as u32)
+    u32::from_le_bytes(b[i..i + 4].try_into().unwrap())
 }
 
 pub fn number_at(b: &[u8], i: usize) -> u64
     requires { i + 8 ≤ length b.now }
     ensures { result ≡ number_at 8 b.now i }
 {
-    code_at(b, i) as u64 + 4294967296 * (code_at(b, i + 4) as u64)
+    u64::from_le_bytes(b[i..i + 8].try_into().unwrap())
 }
 
 fn put_code(b: &mut [u8], i: usize, x: u32)
     requires { i + 4 ≤ length b.old }
     ensures { b.new ≡ sets b.old i (low_bytes 4 x) }
 {
-    put_word(b, i, (x % 65536) as u16);
-    put_word(b, i + 2, (x / 65536) as u16);
+    b[i..i + 4].copy_from_slice(&x.to_le_bytes());
 }
 
 pub fn put_number(b: &mut [u8], i: usize, x: u64)
     requires { i + 8 ≤ length b.old }
     ensures { b.new ≡ sets b.old i (low_bytes 8 x) }
 {
-    put_code(b, i, (x % 4294967296) as u32);
-    put_code(b, i + 4, (x / 4294967296) as u32);
+    b[i..i + 8].copy_from_slice(&x.to_le_bytes());
 }
 
 // ---- places
 
 // A number above the last names the first; is_carried refuses it.
+// No TryFrom: each number is answered, and the enum lies in recording, where alone a trait of std could get an impl for it.
 fn place_of(x: u8) -> Place
     ensures { result ≡ place_of x }
 {
@@ -103,44 +111,24 @@ fn place_of(x: u8) -> Place
     }
 }
 
-fn place_number(p: Place) -> u8
-    ensures { result ≡ place_number p }
-{
-    match p {
-        Place::Definition => 0,
-        Place::SkipDefinition => 1,
-        Place::Wire => 2,
-        Place::Width => 3,
-        Place::Code => 4,
-        Place::Name => 5,
-        Place::VarEnd => 6,
-        Place::DefinitionsEnd => 7,
-        Place::Body => 8,
-        Place::SkipBody => 9,
-        Place::BodyCode => 10,
-        Place::Block => 11,
-        Place::BlockCode => 12,
-    }
-}
-
 // ---- a reader, read
 
 fn value_from(b: &[u8], i: usize) -> Value
-    requires { i + 3 ≤ length b.now }
+    requires { i + value_size ≤ length b.now }
     ensures { result ≡ value_from b.now i }
 {
     readers::value_with(b[i] == 1, word_at(b, i + 1))
 }
 
 fn variable_from(b: &[u8], i: usize) -> Variable
-    requires { i + 8 ≤ length b.now }
+    requires { i + variable_size ≤ length b.now }
     ensures { result ≡ variable_from b.now i }
 {
-    readers::variable_with(code_at(b, i), b[i + 4], value_from(b, i + 5))
+    readers::variable_with(code_at(b, i), b[i + 4], value_from(b, i + VARIABLE_VALUE))
 }
 
 fn variables_from(b: &[u8], i: usize) -> Variables
-    requires { i + 40 ≤ length b.now }
+    requires { i + variables_size ≤ length b.now }
     ensures { result ≡ variables_from b.now i }
 {
     readers::variables_with(
@@ -153,25 +141,25 @@ fn variables_from(b: &[u8], i: usize) -> Variables
 }
 
 fn pending_from(b: &[u8], i: usize) -> Pending
-    requires { i + 9 ≤ length b.now }
+    requires { i + pending_size ≤ length b.now }
     ensures { result ≡ pending_from b.now i }
 {
     readers::pending_with(
         b[i],
         code_at(b, i + 1),
-        readers::vector_with(b[i + 5], value_from(b, i + 6)),
+        readers::vector_with(b[i + 5], value_from(b, i + PENDING_VALUE)),
     )
 }
 
 fn stamp_from(b: &[u8], i: usize) -> Stamp
-    requires { i + 10 ≤ length b.now }
+    requires { i + stamp_size ≤ length b.now }
     ensures { result ≡ stamp_from b.now i }
 {
     readers::stamp_with(b[i] == 1, number_at(b, i + 2), b[i + 1] == 1)
 }
 
 fn fault_from(b: &[u8], i: usize) -> Fault
-    requires { i + 9 ≤ length b.now }
+    requires { i + fault_size ≤ length b.now }
     ensures { result ≡ fault_from b.now i }
 {
     readers::fault_with(b[i], number_at(b, i + 1))
@@ -194,7 +182,7 @@ pub fn reader_from(b: &[u8]) -> Reader
 // ---- a reader, written
 
 fn put_value(b: &mut [u8], i: usize, v: Value)
-    requires { i + 3 ≤ length b.old }
+    requires { i + value_size ≤ length b.old }
     ensures { b.new ≡ sets b.old i (value_bytes v) }
 {
     b[i] = flag_byte(v.known);
@@ -202,16 +190,16 @@ fn put_value(b: &mut [u8], i: usize, v: Value)
 }
 
 fn put_variable(b: &mut [u8], i: usize, v: Variable)
-    requires { i + 8 ≤ length b.old }
+    requires { i + variable_size ≤ length b.old }
     ensures { b.new ≡ sets b.old i (variable_bytes v) }
 {
     put_code(b, i, v.code);
     b[i + 4] = v.width;
-    put_value(b, i + 5, v.value);
+    put_value(b, i + VARIABLE_VALUE, v.value);
 }
 
 fn put_variables(b: &mut [u8], i: usize, vs: Variables)
-    requires { i + 40 ≤ length b.old }
+    requires { i + variables_size ≤ length b.old }
     ensures { b.new ≡ sets b.old i (variables_bytes vs) }
 {
     put_variable(b, i, vs.stb);
@@ -222,17 +210,17 @@ fn put_variables(b: &mut [u8], i: usize, vs: Variables)
 }
 
 fn put_pending(b: &mut [u8], i: usize, p: Pending)
-    requires { i + 9 ≤ length b.old }
+    requires { i + pending_size ≤ length b.old }
     ensures { b.new ≡ sets b.old i (pending_bytes p) }
 {
     b[i] = p.width;
     put_code(b, i + 1, p.code);
     b[i + 5] = p.vector.length;
-    put_value(b, i + 6, p.vector.value);
+    put_value(b, i + PENDING_VALUE, p.vector.value);
 }
 
 fn put_stamp(b: &mut [u8], i: usize, s: Stamp)
-    requires { i + 10 ≤ length b.old }
+    requires { i + stamp_size ≤ length b.old }
     ensures { b.new ≡ sets b.old i (stamp_bytes s) }
 {
     b[i] = flag_byte(s.opened);
@@ -241,7 +229,7 @@ fn put_stamp(b: &mut [u8], i: usize, s: Stamp)
 }
 
 fn put_fault(b: &mut [u8], i: usize, f: Fault)
-    requires { i + 9 ≤ length b.old }
+    requires { i + fault_size ≤ length b.old }
     ensures { b.new ≡ sets b.old i (fault_bytes f) }
 {
     b[i] = f.number;
@@ -252,8 +240,7 @@ pub fn put_reader(b: &mut [u8], r: Reader)
     requires { length b.old ≡ carried_size }
     ensures { b.new ≡ sets b.old 0 (reader_bytes r) }
 {
-    let place = r.place;
-    b[0] = place_number(place);
+    b[0] = r.place as u8;
     put_pending(b, PENDING_AT, r.pending);
     put_variables(b, VARIABLES_AT, r.variables);
     put_stamp(b, STAMP_AT, r.stamp);
@@ -275,64 +262,35 @@ fn reader_flags(b: &[u8]) -> bool
     requires { length b.now ≡ carried_size }
     ensures { result ≡ reader_flags b.now }
 {
-    if !is_flag(b, 7) {
-        return false;
-    }
-    if !is_flag(b, 15) {
-        return false;
-    }
-    if !is_flag(b, 23) {
-        return false;
-    }
-    if !is_flag(b, 31) {
-        return false;
-    }
-    if !is_flag(b, 39) {
-        return false;
-    }
-    if !is_flag(b, 47) {
-        return false;
-    }
-    if !is_flag(b, 50) {
-        return false;
-    }
-    is_flag(b, 51)
+    is_flag(b, PENDING_AT + PENDING_VALUE)
+        && is_flag(b, VARIABLES_AT + VARIABLE_VALUE)
+        && is_flag(b, VARIABLES_AT + VARIABLE_SIZE + VARIABLE_VALUE)
+        && is_flag(b, VARIABLES_AT + 2 * VARIABLE_SIZE + VARIABLE_VALUE)
+        && is_flag(b, VARIABLES_AT + 3 * VARIABLE_SIZE + VARIABLE_VALUE)
+        && is_flag(b, VARIABLES_AT + 4 * VARIABLE_SIZE + VARIABLE_VALUE)
+        && is_flag(b, STAMP_AT)
+        && is_flag(b, STAMP_AT + 1)
 }
 
-// Whether no byte from an offset up to another is a separator.
-fn no_separator(b: &[u8], from: usize, end: usize) -> bool
-    requires { end ≤ length b.now }
-    ensures { result ≡ all (λ x. not (separator x)) (between b.now from end) }
+// Whether no byte of a word is a separator.
+fn no_separator(word: &[u8]) -> bool
+    ensures { result ≡ all (λ x. not (separator x)) word.now }
 {
-    let mut i = from;
-    while i < end {
-        if scanning::is_separator(b[i]) {
-            return false;
-        }
-        i += 1;
-    }
-    true
+    word.iter().all(|x| !scanning::is_separator(*x))
 }
 
 // Whether the bytes encode what is carried.
+#[tactic(auto, unfolding(recording::specs::Carrying::is_carried))]
 pub fn is_carried(b: &[u8]) -> bool
     ensures { result ≡ is_carried b.now }
 {
     if b.len() != CARRIED_SIZE {
         return false;
     }
-    if LAST_PLACE < b[0] {
-        return false;
-    }
-    if !reader_flags(b) {
-        return false;
-    }
-    if !is_flag(b, ENDED_AT) {
-        return false;
-    }
     let count = word_at(b, LENGTH_AT) as usize;
-    if MOST_KEPT < count {
-        return false;
-    }
-    no_separator(b, BYTES_AT, BYTES_AT + count)
+    b[0] <= LAST_PLACE
+        && reader_flags(b)
+        && is_flag(b, ENDED_AT)
+        && count <= MOST_KEPT
+        && no_separator(&b[BYTES_AT..BYTES_AT + count])
 }

@@ -1,19 +1,15 @@
--- `carrying::no_separator` meets its contract. The loop keeps the answer: that of the bytes from i on is that of all. Assumes nothing.
-use mathlib.Core.Path.{sym, ◌∙◌}
-use Rattle.std.proofs.Common.{arith}
-use Rattle.carrying.proofs.Flags.{separators_more, separators_stop}
+-- `carrying::no_separator` meets its contract. Assumes nothing.
+use Rattle.std.proofs.Common.{rules, ◌∙◌, not}
+use borrow.Author.Tests.{tests}
+use Rattle.std.proofs.lemmas.Iterator.{YieldsList-from_slice}
+use Rattle.std.proofs.lemmas.Iterator.Search.{all_from_yields_List}
+use Rattle.recording.specs.Words.{separator}
+use Rattle.carrying.proofs.Flags.{all_list}
 use Rattle.carrying.proofs.no_separator.Goals as goal
 
-pub returns-then-is_separator : goal.returns-then-is_separator
-returns-then-is_separator c =
-    let l = c.loop-i in
-    let a = c.args in
-    separators_stop a.b.now l.i a.end (omega arith) (omega arith) (sym c.is_separator.ensures ∙ c.if-is_separator.true)
-    ∙ l.invariant
-
-pub loop-i-preserved : goal.loop-i-preserved
-loop-i-preserved c =
-    let l = c.loop-i in
-    let a = c.args in
-    separators_more a.b.now l.i a.end (omega arith) (omega arith) (sym c.is_separator.ensures ∙ c.if-is_separator.false)
-    ∙ l.invariant
+pub returns : goal.returns
+returns c =
+    let w = c.args.word.now in
+    all_from_yields_List (λ x. not (separator x)) _ _ c.all.result c.all.ensures.ran (YieldsList-from_slice w cc)
+    (λ x v q k. search (rules, tests))
+    ∙ all_list (λ x. not (separator x)) w

@@ -1,0 +1,2 @@
+-- How many bytes each part of a reader takes.
+pub mod Sizes
