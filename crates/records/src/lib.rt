@@ -12,9 +12,6 @@ ghost use Rattle.model.specs.Commands.{claimed_core, source_after};
 
 use model::{Answer, CORES, Controller, Core, MessageBox, SOURCES, Source, SourceAction, SourceId};
 
-// What a count of dropped triggers is held at: `most_dropped`.
-const MOST_DROPPED: u16 = 65535;
-
 // ---- the records' values. Every literal of a state record in code stands here.
 
 pub fn source_with(
@@ -41,60 +38,55 @@ pub fn source_with(
 pub fn with_configured(r: Source, p: u16) -> Source
     ensures { result ≡ with_configured p r }
 {
-    let mut s = r;
-    s.configured = p;
-    s
+    Source { configured: p, ..r }
 }
 
 // The source masked, or not.
 pub fn with_mask(r: Source, masked: bool) -> Source
     ensures { result ≡ with_mask masked r }
 {
-    let mut s = r;
-    s.masked = masked;
-    s
+    Source { masked, ..r }
 }
 
 // The source whose request is delivered, or not.
 pub fn with_delivered(r: Source, delivered: bool) -> Source
     ensures { result ≡ with_delivered delivered r }
 {
-    let mut s = r;
-    s.delivered = delivered;
-    s
+    Source { delivered, ..r }
 }
 
 // The source with a new request, at its configured priority.
 pub fn opened(r: Source) -> Source
     ensures { result ≡ opened_of r }
 {
-    let mut s = r;
-    s.pending = true;
-    s.delivered = false;
-    s.priority = r.configured;
-    s
+    Source {
+        pending: true,
+        delivered: false,
+        priority: r.configured,
+        ..r
+    }
 }
 
 // The source with no request any more.
 pub fn ended(r: Source) -> Source
     ensures { result ≡ ended_of r }
 {
-    let mut s = r;
-    s.pending = false;
-    s.delivered = false;
-    s.priority = 0;
-    s
+    Source {
+        pending: false,
+        delivered: false,
+        priority: 0,
+        ..r
+    }
 }
 
 // The source with one more dropped trigger, held at the largest count.
 pub fn dropped_one(r: Source) -> Source
     ensures { result ≡ dropped_one r }
 {
-    let mut s = r;
-    if r.dropped < MOST_DROPPED {
-        s.dropped = r.dropped + 1;
+    Source {
+        dropped: r.dropped.saturating_add(1),
+        ..r
     }
-    s
 }
 
 pub fn box_with(filled: bool, dirty: bool, source: SourceId, priority: u16) -> MessageBox
@@ -127,14 +119,20 @@ pub fn empty_box() -> MessageBox
 pub fn emptied(c: Core) -> Core
     ensures { result ≡ core_with c.configured empty_box }
 {
-    core_with(c.configured, empty_box())
+    Core {
+        message: empty_box(),
+        ..c
+    }
 }
 
 // The core with a request in its box.
 pub fn filled_with(c: Core, id: SourceId, p: u16) -> Core
     ensures { result ≡ core_with c.configured (holding id p) }
 {
-    core_with(c.configured, box_with(true, false, id, p))
+    Core {
+        message: box_with(true, false, id, p),
+        ..c
+    }
 }
 
 // The core raised to its box's priority, and the box emptied.
@@ -192,21 +190,17 @@ pub fn answer_with(state: Controller, number: u8, id: SourceId, cycles: u16) -> 
 pub fn one_to(top: u32, x: u16) -> bool
     ensures { result ≡ between 1 top x }
 {
-    if x == 0 {
-        return false;
-    }
-    x as u32 <= top
+    x != 0 && u32::from(x) <= top
 }
 
-// The top priority, 2^(floor(log2 n) + 2) - 1, from the leading zeros of n.
+// The top priority, 2^(floor(log2 n) + 2) - 1; of no sources, 3.
 pub fn top_priority(n: u16) -> u32
     ensures { result ≡ top_priority n }
 {
     if n == 0 {
         return 3;
     }
-    let width = 17 - u16::leading_zeros(n);
-    (1u32 << width) - 1
+    (1u32 << (n.ilog2() + 2)) - 1
 }
 
 // The box's priority if the box is filled, else the configured one.
@@ -224,13 +218,7 @@ pub fn current_priority(c: Core) -> u16
 pub fn is_candidate(r: Source) -> bool
     ensures { result ≡ candidate r }
 {
-    if r.delivered {
-        return false;
-    }
-    if r.masked {
-        return false;
-    }
-    r.pending
+    r.pending && !r.delivered && !r.masked
 }
 
 // What the comparator compares: 0 for no candidate, else one more than the request's priority.
@@ -238,7 +226,8 @@ pub fn rank(r: Source) -> u32
     ensures { result ≡ rank_of r }
 {
     if is_candidate(r) {
-        return r.priority as u32 + 1;
+        u32::from(r.priority) + 1
+    } else {
+        0
     }
-    0
 }

@@ -14,13 +14,7 @@ use model::{CORES, SOURCES, SourceId};
 pub fn is_simulation(state: &[u8], active: &[u16], holder: &[u16]) -> bool
     ensures { result ≡ is_simulation state.now active.now holder.now }
 {
-    if active.len() != CORES {
-        return false;
-    }
-    if holder.len() != SOURCES {
-        return false;
-    }
-    decoding::is_state(state)
+    active.len() == CORES && holder.len() == SOURCES && decoding::is_state(state)
 }
 
 // Whether core k is idle at 0, or runs a claimed request at its priority that it held last.
@@ -33,21 +27,15 @@ fn core_stands(state: &[u8], active: &[u16], holder: &[u16], n: u16, m: usize, k
     if id == 0 {
         return c.configured == 0;
     }
-    if m <= k {
+    if m <= k || n < id {
         return false;
     }
-    if n < id {
-        return false;
-    }
-    let i = id as usize - 1;
+    let i = usize::from(id) - 1;
     let r = decoding::source_at(state, i);
-    if c.configured != r.priority {
-        return false;
-    }
-    if holder[i] as usize != k + 1 {
-        return false;
-    }
-    source_steps::is_claimed(state, m, SourceId(id), r)
+    let last = usize::from(holder[i]);
+    c.configured == r.priority
+        && last == k + 1
+        && source_steps::is_claimed(state, m, SourceId(id), r)
 }
 
 // Whether the last holder of source i + 1 is below m and, if the request is claimed, runs it.
@@ -55,21 +43,16 @@ fn source_stands(state: &[u8], active: &[u16], holder: &[u16], n: u16, m: usize,
     requires { Sizes state.now active.now holder.now n m × (i < max_sources) }
     ensures { result ≡ source_stands (routines_in state.now active.now holder.now) i }
 {
-    let h = holder[i] as usize;
+    let h = usize::from(holder[i]);
     if m < h {
         return false;
     }
-    if n as usize <= i {
+    if usize::from(n) <= i {
         return true;
     }
     let r = decoding::source_at(state, i);
-    if !source_steps::is_claimed(state, m, SourceId(i as u16 + 1), r) {
-        return true;
-    }
-    if h == 0 {
-        return false;
-    }
-    active[h - 1] as usize == i + 1
+    let claimed = source_steps::is_claimed(state, m, SourceId(i as u16 + 1), r);
+    !claimed || (h != 0 && usize::from(active[h - 1]) == i + 1)
 }
 
 // Whether a simulation is sound: document 02, 4/14, "1, in any call of the simulation". That a request runs on one core only needs no row
@@ -82,20 +65,16 @@ pub fn sound(state: &[u8], active: &[u16], holder: &[u16]) -> bool
         return false;
     }
     let n = decoding::word_at(state, 0);
-    let m = decoding::word_at(state, 2) as usize;
-    let mut k = 0;
-    while k < CORES {
+    let m = usize::from(decoding::word_at(state, 2));
+    for k in 0..CORES {
         if !core_stands(state, active, holder, n, m, k) {
             return false;
         }
-        k += 1;
     }
-    let mut i = 0;
-    while i < SOURCES {
+    for i in 0..SOURCES {
         if !source_stands(state, active, holder, n, m, i) {
             return false;
         }
-        i += 1;
     }
     true
 }

@@ -3,16 +3,18 @@
 --   Backs, backs_exact                 what `is_backed` tests
 --   CoreSound s k, core_sound_exact    what is asked of core k, beside the cores before it
 --   cores_sound_exact                  the same of all cores, and the spare ones are reset
---   cores_refused, cores_passed        the pass's survey where that fails, and where it holds
+--   spares_refused, core_refused       the pass's survey where a spare core isn't reset, and where one in use isn't sound
+--   cores_passed                       and where all hold
 --   filled_sound, empty_sound          from the tests that a core passed, with a filled box and with an empty one
 --   names_out, backed_out              the tests of a sound core succeed
 use Prim.Native.Nat.{ℕ, pred, ◌-◌, ◌<◌, ◌≤◌}
 use mathlib.Core.Path.{◌≡◌, sym, ◌∙◌, ap}
 use mathlib.Core.Logic.Iff
 use mathlib.Core.List.{List}
-use mathlib.Core.Bool.{Bool, true, false}
+use mathlib.Core.Bool.{Bool, true, false, and-false}
 use native.Mathlib.Omega.{arith}
 use lib.ListN.{get_or}
+use Rattle.std.specs.Prelude.{Some, None}
 use Rattle.model.specs.declared.Source.{Source}
 use Rattle.model.specs.declared.Core.{Core}
 use Rattle.model.specs.declared.Controller.{Controller}
@@ -23,7 +25,6 @@ use Rattle.model.specs.WellFormed.{Holding}
 use Rattle.lists.specs.Walks.{every}
 use Rattle.lists.proofs.Bools.{clash}
 use Rattle.model.proofs.Boxes.{holds_in, unboxed_out}
-use Rattle.well_formed.specs.Survey.{inconsistent_survey}
 use Rattle.well_formed.specs.Loops.{core_fits, backs, core_sound, spare_core, cores_sound, cores_to, cores_survey}
 use Rattle.lists.proofs.Exact.{Exact, ◌and◌, flag_exact, eqb_exact, ltb_exact, between_exact, unless_exact, implies_exact, refuted_exact}
 use Rattle.lists.proofs.Exact.{from_exact, every_exact, refused}
@@ -79,13 +80,18 @@ unfolding cores_sound
 cores_sound_exact s = every_exact s.m (core_sound_exact s) and spare_cores_exact s.cores s.m
 
 module _ (s : Controller) where
-  pub cores_refused : ¬ CoresSound s → inconsistent_survey ≡ cores_survey s
-  unfolding cores_survey
-  cores_refused r = rw (sym (refused (cores_sound_exact s) r))
+  pub spares_refused : every max_cores (spare_core s.cores s.m) ≡ false → None ≡ cores_survey s
+  unfolding cores_survey cores_sound
+  spares_refused e = rw (e, and-false)
 
-  pub cores_passed : CoresSound s → cores_to s.cores s.m ≡ cores_survey s
+  pub core_refused : (k : ℕ) → k < s.m → ¬ CoreSound s k → None ≡ cores_survey s
   unfolding cores_survey
-  cores_passed p = rw ((cores_sound_exact s).1 p)
+  core_refused k h r = rw (sym (refused (cores_sound_exact s) (λ p. r (p.0 k h))))
+
+  pub cores_passed :
+      ((k : ℕ) → k < s.m → CoreSound s k) → every max_cores (spare_core s.cores s.m) ≡ true → Some (cores_to s.cores s.m) ≡ cores_survey s
+  unfolding cores_survey cores_sound
+  cores_passed p q = rw ((every_exact s.m (core_sound_exact s)).1 p, q)
 
 -- ---- from the loop's tests
 

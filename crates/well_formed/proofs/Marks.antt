@@ -144,7 +144,7 @@ module _ (l : List Core) where
   unfolding least_priority least walk
   least_more k = winner_min (least l k) k _ refl
 
-  pub cores_begin : survey_with true true (current_at 0) 0 unboxed 0 ≡ cores_to l 0
+  pub cores_begin : survey_with true (current_at 0) 0 unboxed 0 ≡ cores_to l 0
   unfolding every greatest lowest least_priority least walk
   cores_begin = refl
 

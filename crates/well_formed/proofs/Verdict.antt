@@ -1,15 +1,17 @@
 -- The passes together, and the verdicts of a survey. Assumes nothing.
 --   consistent_passes       with sizes in range, a state is consistent just if both passes succeed
 --   survey_refused          the survey of a state that isn't consistent
---   cores_consistent        the pass over the cores tells whether they are sound
+--   survey_unsound          the same where the pass over the cores fails
 --   survey_passes           the survey of a state whose cores are sound, from the two passes
 --   greatest_le, greatest_lt, lowest_le, lowest_gt    the greatest and the least of a row
---   well_formed_exact       and whether it is well formed: it is consistent and clean, nothing is above the least current priority, and
---                           every covered priority is below every box's
+--   verdict                 and whether it is well formed: it is consistent and clean, nothing is above the least current priority, and
+--   well_formed_is          every covered priority is below every box's
 use Prim.Native.Nat.{ℕ, zero, suc, ◌<◌, ◌≤◌, min, max}
-use mathlib.Core.Path.{◌≡◌, refl, sym, ◌∙◌, ap, ap₂}
+use mathlib.Core.Path.{◌≡◌, refl, sym, ◌∙◌, ap₂}
 use mathlib.Core.Bool.{Bool, true, false, not, cond, ◌&&◌, ◌||◌}
 use lib.ListN.{length}
+use Rattle.std.specs.Prelude.{Option, Some, None}
+use Rattle.std.proofs.lemmas.Option.{none-some, same_Some}
 use lib.Dec.{leb, ltb}
 use native.Mathlib.Omega.{arith}
 use native.Mathlib.Decide.{ℕ_discrete}
@@ -22,17 +24,13 @@ use Rattle.model.specs.Statements.{InRange}
 use Rattle.lists.specs.Walks.{every}
 use Rattle.lists.proofs.Bools.{Flag, on, off, flag}
 use Rattle.model.proofs.Priorities.{top_lt}
-use Rattle.well_formed.specs.declared.Surveyed.{Surveyed}
-use Rattle.well_formed.specs.Survey.{inconsistent_survey, unboxed, greatest, lowest, covered_priority, boxed_priority, shown, survey_of}
-use Rattle.well_formed.specs.Loops.{cores_sound, cores_survey, both_sound, sources_survey}
-use Rattle.lists.proofs.Exact.{Exact, ◌and◌, flag_exact, leb_exact, ltb_exact, given, agree}
+use Rattle.well_formed.specs.declared.Survey.{Survey}
+use Rattle.well_formed.specs.Survey.{unboxed, greatest, lowest, covered_priority, boxed_priority, shown, survey_of}
+use Rattle.well_formed.specs.Loops.{cores_sound, cores_to, cores_survey, both_sound, sources_survey}
+use Rattle.lists.proofs.Exact.{◌and◌, leb_exact, ltb_exact, agree}
 use Rattle.well_formed.proofs.Test.{sources_apart, consistent_exact, frugal_exact}
 use Rattle.well_formed.proofs.Fits.{SourcesSound, sources_sound_exact}
 use Rattle.well_formed.proofs.Cores.{CoresSound, cores_sound_exact}
-
-consistent_if : (b : Bool) (v : Surveyed) → v.consistent ≡ true → (cond b v inconsistent_survey).consistent ≡ b
-consistent_if true v e = e
-consistent_if false v e = refl
 
 -- ---- the two passes
 
@@ -83,18 +81,27 @@ module _ (s : Controller) where
 
   -- ---- the surveys
 
-  pub survey_refused : consistent s ≡ false → inconsistent_survey ≡ survey_of s
+  pub survey_refused : consistent s ≡ false → None ≡ survey_of s
   unfolding survey_of
   survey_refused e = rw e
 
-  pub cores_consistent : (cores_survey s).consistent ≡ cores_sound s
-  unfolding cores_survey
-  cores_consistent = consistent_if (cores_sound s) _ refl
+  module _ (e : consistent s ≡ both_sound s) where
+    pub survey_unsound : None ≡ cores_survey s → None ≡ survey_of s
+    unfolding cores_survey
+    survey_unsound p = go (cores_sound s) refl p
+      where
+        go : (b : Bool) → cores_sound s ≡ b → None ≡ cond b (Some (cores_to s.cores s.m)) None → None ≡ survey_of s
+        go true q r = absurd (none-some _ r)
+        go false q r = survey_refused (e ∙ rw q)
 
-  pub survey_passes : consistent s ≡ both_sound s → cores_sound s ≡ true →
-      sources_survey (cores_survey s) s.sources s.n (top_priority s.n) ≡ survey_of s
-  unfolding survey_of cores_survey sources_survey boxes_clean
-  survey_passes e p = rw (e, p)
+    pub survey_passes : {v : Survey} → Some v ≡ cores_survey s → sources_survey v s.sources s.n (top_priority s.n) ≡ survey_of s
+    unfolding survey_of cores_survey sources_survey boxes_clean
+    survey_passes {v} p = go (cores_sound s) refl p
+      where
+        go : (b : Bool) → cores_sound s ≡ b → Some v ≡ cond b (Some (cores_to s.cores s.m)) None →
+            sources_survey v s.sources s.n (top_priority s.n) ≡ survey_of s
+        go true q r = rw (same_Some _ _ r, e, q)
+        go false q r = absurd (none-some _ (sym r))
 
 -- ---- a well-formed state's
 
@@ -112,22 +119,13 @@ if_any : (a : Bool) (x p : ℕ) → not a || leb x p ≡ leb (cond a x 0) p
 if_any true x p = refl
 if_any false x p = sym (le-leb 0 p (omega arith))
 
-abbrev settled : Surveyed → Bool
+abbrev settled : Survey → Bool
 settled v = leb v.waiting v.lowest && leb v.covered v.lowest
 
-abbrev verdict : Surveyed → Bool
-verdict v = v.consistent && v.clean && settled v && ltb v.covered v.boxed
-
--- the survey says that the state is well formed
-abbrev pub SurveyPasses : Surveyed → Type 0
-SurveyPasses v =
-    (((v.consistent ≡ true) × (v.clean ≡ true)) × ((v.waiting ≤ v.lowest) × (v.covered ≤ v.lowest))) × (v.covered < v.boxed)
-
-verdict_exact : (v : Surveyed) → Exact (verdict v) (SurveyPasses v)
-verdict_exact v =
-    flag_exact v.consistent and
-    flag_exact v.clean and
-    (leb_exact v.waiting v.lowest and leb_exact v.covered v.lowest) and ltb_exact v.covered v.boxed
+-- what the survey says of whether the state is well formed
+abbrev pub verdict : Option Survey → Bool
+verdict None = false
+verdict (Some v) = v.clean && settled v && ltb v.covered v.boxed
 
 -- ---- the greatest and the least of a row
 
@@ -211,14 +209,11 @@ module _ (s : Controller) where
   unfolding quiet candidates_settled covered_settled
   quiet_is = simp (if_any, every_le)
 
-  well_formed_is : well_formed s ≡ verdict (survey_of s)
+  pub well_formed_is : well_formed s ≡ verdict (survey_of s)
   unfolding survey_of well_formed
   well_formed_is = go (consistent s) refl
     where
       go :
-          (b : Bool) → consistent s ≡ b → b && boxes_clean s && quiet s && frugal s ≡ verdict (cond b (shown s) inconsistent_survey)
+          (b : Bool) → consistent s ≡ b → b && boxes_clean s && quiet s && frugal s ≡ verdict (cond b (Some (shown s)) None)
       go true e = ap₂ (λ (q f : Bool). boxes_clean s && q && f) quiet_is (frugal_is s ((consistent_exact s).0 e))
       go false e = refl
-
-  pub well_formed_exact : {v : Surveyed} → v ≡ survey_of s → Exact (well_formed s) (SurveyPasses v)
-  well_formed_exact {v} e = given (verdict_exact v) (well_formed_is ∙ sym (ap verdict e))

@@ -1,5 +1,5 @@
 -- What each test and each loop of the survey computes. Helpers of contracts; nothing here needs to be believed.
-use Rattle.std.specs.Prelude.{ℕ, min, max, List, Bool, true, not, cond, ◌&&◌, ◌||◌, get_or, ltb, eqb}
+use Rattle.std.specs.Prelude.{ℕ, min, max, List, Bool, Option, Some, None, not, cond, ◌&&◌, ◌||◌, get_or, ltb, eqb}
 use Rattle.model.specs.declared.Source.{Source}
 use Rattle.model.specs.declared.Core.{Core}
 use Rattle.model.specs.declared.Controller.{Controller}
@@ -10,8 +10,8 @@ use Rattle.model.specs.Priorities.{top_priority}
 use Rattle.model.specs.Requests.{current_priority}
 use Rattle.model.specs.Arbitration.{least_priority}
 use Rattle.model.specs.WellFormed.{source_in_range, core_in_range, is_reset_source, is_reset_core, is_backed, same_source}
-use Rattle.well_formed.specs.declared.Surveyed.{Surveyed}
-use Rattle.well_formed.specs.Survey.{survey_with, inconsistent_survey, covered_priority, boxed_priority, greatest_covered, lowest_boxed}
+use Rattle.well_formed.specs.declared.Survey.{Survey}
+use Rattle.well_formed.specs.Survey.{survey_with, covered_priority, boxed_priority, greatest_covered, lowest_boxed}
 use Rattle.well_formed.specs.Survey.{greatest_waiting}
 
 -- A source without a request that has dropped no trigger.
@@ -43,18 +43,18 @@ spare_core l m k = ltb k m || is_reset_core (get_or l k no_core)
 unfoldable pub cores_sound : Controller → Bool
 cores_sound s = every s.m (core_sound s) && every max_cores (spare_core s.cores s.m)
 
-unfoldable pub with_core : Surveyed → Core → Surveyed
+unfoldable pub with_core : Survey → Core → Survey
 with_core v c =
-    survey_with true (v.clean && not c.message.dirty) (min v.lowest (current_priority c))
+    survey_with (v.clean && not c.message.dirty) (min v.lowest (current_priority c))
     (max v.covered (covered_priority c)) (min v.boxed (boxed_priority c)) v.waiting
 
 -- What the first k cores show.
-abbrev pub cores_to : List Core → ℕ → Surveyed
+abbrev pub cores_to : List Core → ℕ → Survey
 cores_to l k =
-    survey_with true (every k (λ j. not (get_or l j no_core).message.dirty)) (least_priority l k) (greatest_covered l k) (lowest_boxed l k) 0
+    survey_with (every k (λ j. not (get_or l j no_core).message.dirty)) (least_priority l k) (greatest_covered l k) (lowest_boxed l k) 0
 
-unfoldable pub cores_survey : Controller → Surveyed
-cores_survey s = cond (cores_sound s) (cores_to s.cores s.m) inconsistent_survey
+unfoldable pub cores_survey : Controller → Option Survey
+cores_survey s = cond (cores_sound s) (Some (cores_to s.cores s.m)) None
 
 -- ---- the sources
 
@@ -70,6 +70,6 @@ abbrev pub both_sound : Controller → Bool
 both_sound s = cores_sound s && sources_sound s.sources s.n (top_priority s.n)
 
 -- What the cores have shown, with what the sources show.
-unfoldable pub sources_survey : Surveyed → List Source → ℕ → ℕ → Surveyed
+unfoldable pub sources_survey : Survey → List Source → ℕ → ℕ → Option Survey
 sources_survey v l n top =
-    cond (sources_sound l n top) (survey_with true v.clean v.lowest v.covered v.boxed (greatest_waiting l n)) inconsistent_survey
+    cond (sources_sound l n top) (Some (survey_with v.clean v.lowest v.covered v.boxed (greatest_waiting l n))) None

@@ -5,8 +5,8 @@
 --   boxed_priority c      the priority of a filled box; unboxed, which is above every priority, where the box is empty
 --   waiting_priority r    the priority of a candidate; 0 for a source that is none
 --   shown s              what the survey says of a consistent state
---   survey_of s           what it says of any record: where that isn't consistent, the other fields are false and 0
-use Rattle.std.specs.Prelude.{ℕ, zero, suc, min, max, List, Bool, true, false, cond, get_or}
+--   survey_of s           what it says of any record: nothing where that isn't consistent
+use Rattle.std.specs.Prelude.{ℕ, zero, suc, min, max, List, Bool, Option, Some, None, cond, get_or}
 use Rattle.model.specs.declared.Source.{Source}
 use Rattle.model.specs.declared.Core.{Core}
 use Rattle.model.specs.declared.Controller.{Controller}
@@ -14,14 +14,11 @@ use Rattle.model.specs.Records.{no_source, no_core}
 use Rattle.model.specs.Requests.{candidate}
 use Rattle.model.specs.Arbitration.{least_priority}
 use Rattle.model.specs.WellFormed.{consistent, boxes_clean}
-use Rattle.well_formed.specs.declared.Surveyed.{Surveyed}
+use Rattle.well_formed.specs.declared.Survey.{Survey}
 
-abbrev pub survey_with : Bool → Bool → ℕ → ℕ → ℕ → ℕ → Surveyed
-survey_with consistent clean lowest covered boxed waiting =
-    record { consistent = consistent; clean = clean; lowest = lowest; covered = covered; boxed = boxed; waiting = waiting }
-
-abbrev pub inconsistent_survey : Surveyed
-inconsistent_survey = survey_with false false 0 0 0 0
+abbrev pub survey_with : Bool → ℕ → ℕ → ℕ → ℕ → Survey
+survey_with clean lowest covered boxed waiting =
+    record { clean = clean; lowest = lowest; covered = covered; boxed = boxed; waiting = waiting }
 
 unfoldable pub greatest : ℕ → (ℕ → ℕ) → ℕ
 greatest zero f = 0
@@ -55,10 +52,10 @@ lowest_boxed l m = lowest m (λ k. boxed_priority (get_or l k no_core))
 abbrev pub greatest_waiting : List Source → ℕ → ℕ
 greatest_waiting l n = greatest n (λ i. waiting_priority (get_or l i no_source))
 
-abbrev pub shown : Controller → Surveyed
+abbrev pub shown : Controller → Survey
 shown s =
-    survey_with true (boxes_clean s) (least_priority s.cores s.m)
+    survey_with (boxes_clean s) (least_priority s.cores s.m)
     (greatest_covered s.cores s.m) (lowest_boxed s.cores s.m) (greatest_waiting s.sources s.n)
 
-unfoldable pub survey_of : Controller → Surveyed
-survey_of s = cond (consistent s) (shown s) inconsistent_survey
+unfoldable pub survey_of : Controller → Option Survey
+survey_of s = cond (consistent s) (Some (shown s)) None

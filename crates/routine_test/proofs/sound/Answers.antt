@@ -45,7 +45,7 @@ returns-then-not-well_formed c =
 pub core_stands-requires : goal.core_stands-requires
 core_stands-requires c =
     let tested = sym c.well_formed-2.ensures ∙ c.if-not-well_formed.false in
-    (sizes c.requires tested c.word_at-n.ensures c.word_at-m.ensures, c.loop-k-test.true)
+    (sizes c.requires tested c.word_at-n.ensures (c.from-m.ensures ∙ c.word_at.ensures), c.loop-k-test.true)
 
 pub returns-then-not-core_stands : goal.returns-then-not-core_stands
 returns-then-not-core_stands c =
@@ -56,7 +56,7 @@ returns-then-not-core_stands c =
 pub source_stands-requires : goal.source_stands-requires
 source_stands-requires c =
     let tested = sym c.well_formed-2.ensures ∙ c.if-not-well_formed.false in
-    (sizes c.requires tested c.word_at-n.ensures c.word_at-m.ensures, c.loop-i-test.true)
+    (sizes c.requires tested c.word_at-n.ensures (c.from-m.ensures ∙ c.word_at.ensures), c.loop-i-test.true)
 
 pub returns-then-not-source_stands : goal.returns-then-not-source_stands
 returns-then-not-source_stands c =
@@ -70,6 +70,6 @@ returns c =
     passes (stands_exact sim c.requires.1 c.requires.2)
     (record {
       controller = sym c.well_formed-2.ensures ∙ c.if-not-well_formed.false;
-      cores = λ k h. c.loop-k.invariant.1 k (omega arith);
-      sources = λ i h. c.loop-i.invariant.1 i (omega arith);
+      cores = λ k h. c.loop-k.invariant k (omega arith);
+      sources = λ i h. c.loop-i.invariant i (omega arith);
     })

@@ -1,8 +1,10 @@
 -- `routine_test::source_stands` meets its contract: each test decides one of the facts that the source asks for. Assumes nothing.
-use Prim.Native.Nat.{pred, ◌-◌}
+use Prim.Native.Nat.{pred}
 use mathlib.Core.Path.{◌≡◌, sym, ◌∙◌, ap}
+use mathlib.Core.Bool.{not}
 use Rattle.std.proofs.Common.{arith}
 use native.Mathlib.Numerals.{add-one}
+use borrow.Author.Tests.{eq-eqb}
 use Rattle.lists.proofs.Bools.{clash}
 use Rattle.lists.proofs.Exact.{eqb_exact, passes, refused, agree}
 use Rattle.model.specs.Requests.{claimed}
@@ -18,32 +20,33 @@ returns-then-m-h c =
     let sim : Routines = routines_in c.args.state.now c.args.active.now c.args.holder.now in
     refused (source_exact sim c.args.i) (λ p. omega (arith, p.0))
 
-pub returns-then-n-i : goal.returns-then-n-i
-returns-then-n-i c =
+pub returns-then-from-i : goal.returns-then-from-i
+returns-then-from-i c =
     let sim : Routines = routines_in c.args.state.now c.args.active.now c.args.holder.now in
     passes (source_exact sim c.args.i) (omega arith, λ l e. absurd (omega arith))
 
-pub returns-then-not-is_claimed : goal.returns-then-not-is_claimed
-returns-then-not-is_claimed c =
+pub returns-then-not-claimed : goal.returns-then-not-claimed
+returns-then-not-claimed c =
     let sim : Routines = routines_in c.args.state.now c.args.active.now c.args.holder.now in
-    let is : c.is_claimed.result ≡ claimed sim.controller c.args.i =
-    claimed_read c.requires.0 c.args.i _ c.requires.1 (add-one c.args.i) c.source_at-r.ensures c.is_claimed.ensures in
-    passes (source_exact sim c.args.i) (omega arith, λ l e. clash (is ∙ e) c.if-not-is_claimed.true)
+    let is : c.is_claimed-claimed.result ≡ claimed sim.controller c.args.i =
+    claimed_read c.requires.0 c.args.i _ c.requires.1 (add-one c.args.i) c.source_at-r.ensures c.is_claimed-claimed.ensures in
+    ap not c.if-not-claimed.true ∙ passes (source_exact sim c.args.i) (omega arith, λ l e. clash (is ∙ e) c.if-not-claimed.true)
 
-pub returns-then-h-eq0 : goal.returns-then-h-eq0
-returns-then-h-eq0 c =
+pub returns-then-h-ne0 : goal.returns-then-h-ne0
+returns-then-h-ne0 c =
     let sim : Routines = routines_in c.args.state.now c.args.active.now c.args.holder.now in
-    let is : c.is_claimed.result ≡ claimed sim.controller c.args.i =
-    claimed_read c.requires.0 c.args.i _ c.requires.1 (add-one c.args.i) c.source_at-r.ensures c.is_claimed.ensures in
-    refused (source_exact sim c.args.i) (λ p. omega (arith, (p.1 (omega arith) (sym is ∙ c.if-not-is_claimed.false)).0))
-
-pub returns : goal.returns
-returns c =
-    let sim : Routines = routines_in c.args.state.now c.args.active.now c.args.holder.now in
-    let is : c.is_claimed.result ≡ claimed sim.controller c.args.i =
-    claimed_read c.requires.0 c.args.i _ c.requires.1 (add-one c.args.i) c.source_at-r.ensures c.is_claimed.ensures in
-    let at : active_at sim (holder_at sim c.args.i - 1) ≡ active_at sim (pred (holder_at sim c.args.i)) =
-    ap (active_at sim) (less_one (holder_at sim c.args.i)) in
+    let is : c.is_claimed-claimed.result ≡ claimed sim.controller c.args.i =
+    claimed_read c.requires.0 c.args.i _ c.requires.1 (add-one c.args.i) c.source_at-r.ensures c.is_claimed-claimed.ensures in
+    let at : c.from-then-h-ne0.result ≡ active_at sim (pred (holder_at sim c.args.i)) =
+    c.from-then-h-ne0.ensures ∙ ap (active_at sim) (less_one c.from-h.result ∙ ap pred c.from-h.ensures) in
     agree (eqb_exact _ _) (source_exact sim c.args.i)
     (λ q. (omega arith, λ l g. (omega arith, sym at ∙ q ∙ add-one _)))
-    (λ p. at ∙ (p.1 (omega arith) (sym is ∙ c.if-not-is_claimed.false)).1 ∙ sym (add-one _))
+    (λ p. at ∙ (p.1 (omega arith) (sym is ∙ c.if-not-claimed.false)).1 ∙ sym (add-one _))
+
+pub returns-else-h-ne0 : goal.returns-else-h-ne0
+returns-else-h-ne0 c =
+    let sim : Routines = routines_in c.args.state.now c.args.active.now c.args.holder.now in
+    let is : c.is_claimed-claimed.result ≡ claimed sim.controller c.args.i =
+    claimed_read c.requires.0 c.args.i _ c.requires.1 (add-one c.args.i) c.source_at-r.ensures c.is_claimed-claimed.ensures in
+    rw (eq-eqb c.from-h.result 0 c.if-h-ne0.false)
+    (refused (source_exact sim c.args.i) (λ p. omega (arith, (p.1 (omega arith) (sym is ∙ c.if-not-claimed.false)).0)))
