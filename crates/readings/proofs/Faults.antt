@@ -4,7 +4,7 @@
 --   read_at-fault, read_at-strobe                a word, place by place
 use Prim.Native.Nat.{ℕ, suc, min}
 use mathlib.Core.Path.{◌≡◌, refl, ap, ◌∙◌}
-use mathlib.Core.Option.{Option, none, some}
+use Rattle.std.specs.Prelude.{Option, None, Some}
 use mathlib.Core.List.{[], ◌∷◌, tail}
 use mathlib.Core.Bool.{Bool, true, false, not, ◌&&◌, ◌||◌, cond}
 use lib.ListN.{get_or}
@@ -210,8 +210,8 @@ module _ (r : Reader) (w : Word) where
 
   name_fault : (o : Option Signal) → (read_name o r w).fault ≡ cond (not (is_declared o r)) (fault_with 12 w.at) r.fault
   unfolding read_name
-  name_fault none = refl
-  name_fault (some s) = judged (declares r s) (at VarEnd (declaring s r)) (refused 12 w.at r)
+  name_fault None = refl
+  name_fault (Some s) = judged (declares r s) (at VarEnd (declaring s r)) (refused 12 w.at r)
 
   change_fault : (p q : Place) → (read_change p q r w).fault ≡ cond (not (is_change r w.bytes)) (fault_with 11 w.at) r.fault
   unfolding read_change
@@ -227,8 +227,8 @@ module _ (r : Reader) (w : Word) where
   code_fault : (p : Place) (o : Option Signal) →
       (read_vector_code p o r w).fault ≡ cond (not (takes_vector o r)) (fault_with 11 w.at) r.fault
   unfolding read_vector_code
-  code_fault p none = refl
-  code_fault p (some s) =
+  code_fault p None = refl
+  code_fault p (Some s) =
       judged (leb r.pending.vector.length (variable r s).width) (at p (with_value s r.pending.vector.value r)) (out_of_place w r)
 
   block_fault : (read_block r w).fault ≡ cond (not (is_text "$end" w.bytes || is_change r w.bytes)) (fault_with 11 w.at) r.fault
