@@ -13,19 +13,20 @@ ghost use Rattle.carrying.specs.Sizes.{value_size, variables_size, pending_size,
 
 use decoding::word_at;
 use encoding::{flag_byte, put_word};
+use layout::WORD_SIZE;
 use recording::{Fault, Pending, Place, Reader, Stamp, Value, Variable, Variables};
 use vcd_words::{readers, scanning};
 
 // The bytes of a number of 64 bits, of a value and of a variable, and where the value lies in a variable and in what is under way.
-const NUMBER_SIZE: usize = 8;
+const NUMBER_SIZE: usize = size_of::<u64>();
 
-const VALUE_SIZE: usize = 3;
+const VALUE_SIZE: usize = 1 + WORD_SIZE;
 
-const VARIABLE_VALUE: usize = 5;
+const VARIABLE_VALUE: usize = size_of::<u32>() + 1;
 
 const VARIABLE_SIZE: usize = VARIABLE_VALUE + VALUE_SIZE;
 
-const PENDING_VALUE: usize = 6;
+const PENDING_VALUE: usize = 1 + size_of::<u32>() + 1;
 
 // Where the parts of a reader begin, behind its place: what is under way, the variables, the stamp, the commands taken, the fault.
 const PENDING_AT: usize = 1;
@@ -36,7 +37,7 @@ const STAMP_AT: usize = VARIABLES_AT + 5 * VARIABLE_SIZE;
 
 const COMMANDS_AT: usize = STAMP_AT + 2 + NUMBER_SIZE;
 
-const FAULT_AT: usize = COMMANDS_AT + 2;
+const FAULT_AT: usize = COMMANDS_AT + WORD_SIZE;
 
 const LAST_PLACE: u8 = Place::BlockCode as u8;
 
@@ -49,7 +50,7 @@ pub const FROM_AT: usize = TAKEN_AT + NUMBER_SIZE;
 
 pub const LENGTH_AT: usize = FROM_AT + NUMBER_SIZE;
 
-pub const BYTES_AT: usize = LENGTH_AT + 2;
+pub const BYTES_AT: usize = LENGTH_AT + WORD_SIZE;
 
 // The most bytes of a word that are carried, and all that is.
 pub const MOST_KEPT: usize = 256;

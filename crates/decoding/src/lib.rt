@@ -59,6 +59,7 @@ fn core_from(b: &[u8], i: usize) -> Core
 }
 
 // Source i + 1 and core k of a state, read where they lie in its bytes.
+// Two functions and no trait: it would have the place, the size and the definition of each record as members, to share one line.
 pub fn source_at(b: &[u8], i: usize) -> Source
     requires { (length b.now ≡ state_size) × (i < max_sources) }
     ensures { result ≡ source_from b.now (sources_from + source_size * i) }

@@ -62,6 +62,7 @@ fn put_core(b: &mut [u8], i: usize, c: Core)
 }
 
 // Source i + 1 and core k of a state, written where they lie in its bytes.
+// Two functions and no trait: it would have the place, the size and the definition of each record as members, to share one line.
 pub fn put_source_at(b: &mut [u8], i: usize, r: Source)
     requires { (length b.old ≡ state_size) × (i < max_sources) }
     ensures { b.new ≡ sets b.old (sources_from + source_size * i) (source_bytes r) }
