@@ -48,7 +48,8 @@ fn spare_cores(state: &[u8], m: usize) -> bool
     true
 }
 
-// Whether the sources from n on are fresh, in the same way.
+// Whether the sources from n on are fresh, in the same way. One function over a trait of the two rows is no plainer: with the trait, its two
+// impls and its law it is twice as long, and proofs of the law would stand among the definitions of specs/.
 fn spare_sources(state: &[u8], n: usize) -> bool
     requires { (length state.now ≡ state_size) × (n ≤ max_sources) }
     ensures { result ≡ every max_sources (spare_source (state_from state.now).sources n) }

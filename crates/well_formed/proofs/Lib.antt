@@ -6,8 +6,6 @@
 --   Cores     one core in the pass over the cores
 --   Marks     what that pass keeps
 --   Verdict   the passes together, and the verdicts of a survey
---   Read      the passes over records that are read one at a time
---   Repeats   spare records that have the same bytes
 pub mod Clauses
 pub mod Test
 pub mod Reset
