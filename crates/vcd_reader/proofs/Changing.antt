@@ -1,32 +1,31 @@
 -- What changes and times do where a change may stand. Assumes nothing.
 --   names_cmd, .., names_prio    the first variable with a code
---   places_some, places_none     a vector's code names a variable that takes the vector, or not
+--   places_some                  a vector's code names a variable that takes the vector
 --   coded_vector                 bits from an offset on and the code that follows them
 --   follows_vector, follows_level, follows_time    a whole change, or a time, that gives no command
---   quiet_start, quiet_vector, quiet_level, quiet_time    the same from a reader with other values, time and level
+--   passes_vector, passes_level, passes_time, passes_turn    the same, of a reader where changes may stand
 --   takes_command                a time that gives a command
-use Prim.Native.Nat.{ℕ, ◌+◌, ◌-◌, ◌%◌, ◌<◌, ◌≤◌, min}
+use Prim.Native.Nat.{ℕ, ◌+◌, ◌-◌, ◌<◌, ◌≤◌, min}
 use mathlib.Core.Path.{◌≡◌, refl, sym, ap, subst, ◌∙◌}
 use Rattle.std.specs.Prelude.{Some}
 use mathlib.Core.List.{List, [], ◌∷◌, map}
-use mathlib.Core.Bool.{Bool, true, false, not, ◌&&◌, ◌||◌, and-false}
+use mathlib.Core.Bool.{Bool, true, false, not, ◌&&◌, ◌||◌, cond, and-false}
 use lib.ListN.{length, get_or}
 use lib.Dec.{ltb, leb, eqb}
 use native.Mathlib.Omega.{arith}
-use borrow.Author.Tests.{lt-ltb, lt-leb, ltb-true, eq-eqb, ne_eqb, eqb-true, not-true, not-false}
-use Rattle.lists.proofs.Bools.{and_in, and_l, and_r, or_off, clash, Flag, on, off, flag}
+use borrow.Author.Tests.{lt-ltb, lt-leb, eq-eqb, ne_eqb, eqb-true}
+use Rattle.lists.proofs.Bools.{and_in, or_off, clash, Flag, on, off, flag}
 use Rattle.recording.specs.declared.Place.{Place}
 use Rattle.recording.specs.declared.Place.TheVariants.{Body, BodyCode, BlockCode}
 use Rattle.recording.specs.declared.Signal.{Signal}
 use Rattle.recording.specs.declared.Signal.TheVariants.{Stb, Cmd, Core, Arg, Prio}
-use Rattle.recording.specs.declared.Value.{Value}
 use Rattle.recording.specs.declared.Variable.{Variable}
 use Rattle.recording.specs.declared.Variables.{Variables}
 use Rattle.recording.specs.declared.Vector.{Vector}
 use Rattle.recording.specs.declared.Reader.{Reader}
 use Rattle.recording.specs.Words.{separator, word_with, all}
 use Rattle.recording.specs.Values.{is_bit, is_definite, bit_of, bit_number, numeral, value_of, vector_of, code_of}
-use Rattle.recording.specs.Records.{variable, variable_of, variable_with, with_variable_of, stamp_with, with_stamp, at, with_vector, with_up}
+use Rattle.recording.specs.Records.{variable, variable_of, variable_with, with_variable_of, at, with_vector, with_up}
 use Rattle.recording.specs.Records.{with_time, read_with, only}
 use Rattle.recording.specs.Declarations.{has_code}
 use Rattle.recording.specs.Stamps.{is_readable, strobe_of, end_stamp, end_open_stamp}
@@ -39,15 +38,15 @@ use Rattle.vcd_words.proofs.Sums.{bits_of, bits_sum}
 use Rattle.vcd_reader.specs.declared.Bits.{Bits}
 use Rattle.vcd_reader.specs.declared.Coded.{Coded}
 use Rattle.vcd_reader.specs.declared.Given.{Given}
-use Rattle.vcd_reader.specs.declared.Placed.{Placed}
 use Rattle.vcd_reader.specs.declared.Timed.{Timed}
+use Rattle.vcd_reader.specs.declared.Turned.{Turned}
 use Rattle.vcd_reader.specs.Advances.{Follows}
-use Rattle.vcd_reader.specs.Runs.{word_from, timed_with, BitsThere, CodeThere, TimeThere, Skips}
-use Rattle.vcd_reader.specs.Skipping.{change_place}
-use Rattle.vcd_reader.specs.Changes.{given_with, bits_vector, placed_with, with_variables, changed_to, CodedVector, VectorThere, Places}
-use Rattle.vcd_reader.specs.Changes.{QuietTime, with_level, after_command, Takes}
+use Rattle.vcd_reader.specs.Runs.{word_from, BitsThere, CodeThere, TimeThere, Skips}
+use Rattle.vcd_reader.specs.Skipping.{change_place, in_block, Turns}
+use Rattle.vcd_reader.specs.Changes.{bits_vector, with_variables, CodedVector, Places}
+use Rattle.vcd_reader.specs.Changes.{QuietTime, MayChange, QuietWord, with_level, after_command, Takes}
 use Rattle.vcd_reader.proofs.Follows.{follows_then, follows_passes, follows_skips, follows_word, word_within}
-use Rattle.vcd_reader.proofs.Reaching.{word_inside, word_starts, other_byte, bit_range, no_time}
+use Rattle.vcd_reader.proofs.Reaching.{word_inside, word_starts, other_byte, bit_range}
 
 -- ---- the variable of a code
 
@@ -59,10 +58,10 @@ module _ (r : Reader) (w : List ℕ) (s : Signal) where
   has_other h = rw (ne_eqb (variable r s).code (code_of w) h, and-false)
 
 -- the first variable with a code
-module _ (vs : Variables) (code : ℕ) (h : code ≡ 0 → ⊥) where
-  abbrev pub IsCodeOf : Signal → Type 0
-  IsCodeOf s = (r : Reader) (w : List ℕ) → r.variables ≡ vs → code ≡ code_of w → vector_signal r w ≡ Some s
+abbrev pub IsCodeOf : Variables → ℕ → Signal → Type 0
+IsCodeOf vs code s = (r : Reader) (w : List ℕ) → r.variables ≡ vs → code ≡ code_of w → vector_signal r w ≡ Some s
 
+module _ (vs : Variables) (code : ℕ) (h : code ≡ 0 → ⊥) where
   -- the code of a variable, or of another
   has : (s : Signal) → code ≡ (variable_of vs s).code → (r : Reader) (w : List ℕ) → r.variables ≡ vs → code ≡ code_of w →
       has_code r w s ≡ true
@@ -72,43 +71,38 @@ module _ (vs : Variables) (code : ℕ) (h : code ≡ 0 → ⊥) where
       has_code r w s ≡ false
   lacks s k r w er ec = has_other r w s (λ e. k (ec ∙ sym e ∙ ap (λ (x : Variables). (variable_of x s).code) er))
 
-  pub names_cmd : code ≡ vs.cmd.code → IsCodeOf Cmd
+  pub names_cmd : code ≡ vs.cmd.code → IsCodeOf vs code Cmd
   names_cmd e r w er ec = rw (has Cmd e r w er ec)
 
   module _ (no-cmd : code ≡ vs.cmd.code → ⊥) where
-    pub names_core_lem : code ≡ vs.core.code → IsCodeOf Core
+    pub names_core_lem : code ≡ vs.core.code → IsCodeOf vs code Core
     names_core_lem e r w er ec = rw (lacks Cmd no-cmd r w er ec, has Core e r w er ec)
 
     module _ (no_such_core : code ≡ vs.core.code → ⊥) where
-      pub names_arg : code ≡ vs.arg.code → IsCodeOf Arg
+      pub names_arg : code ≡ vs.arg.code → IsCodeOf vs code Arg
       names_arg e r w er ec = rw (lacks Cmd no-cmd r w er ec, lacks Core no_such_core r w er ec, has Arg e r w er ec)
 
-      pub names_prio : (code ≡ vs.arg.code → ⊥) → code ≡ vs.prio.code → IsCodeOf Prio
+      pub names_prio : (code ≡ vs.arg.code → ⊥) → code ≡ vs.prio.code → IsCodeOf vs code Prio
       names_prio no-arg e r w er ec =
           rw (lacks Cmd no-cmd r w er ec, lacks Core no_such_core r w er ec, lacks Arg no-arg r w er ec, has Prio e r w er ec)
 
-module _ (vs : Variables) (code : ℕ) (v : Vector) (p : Placed) where
-  pub places_some :
-      (s : Signal) (x : Variable) (fits : Bool) → p ≡ placed_with fits (with_variable_of vs s x) →
-      fits ≡ leb v.length (variable_of vs s).width → x ≡ variable_with (variable_of vs s).code (variable_of vs s).width v.value →
-      (code ≡ 0 → ⊥) → ((r : Reader) (w : List ℕ) → r.variables ≡ vs → code ≡ code_of w → vector_signal r w ≡ Some s) → Places vs code v p
-  unfolding read_vector_code
-  places_some s x fits e ef ex h named =
-      rw e
-      (record {
-        some = λ f. omega arith;
-        takes = λ f next r i w er ev ec. go next r i w er ev (named r w er ec) (sym ef ∙ f);
-      })
-    where
-      go : (next : Place) (r : Reader) (i : ℕ) (w : List ℕ) → r.variables ≡ vs → r.pending.vector ≡ v →
-          vector_signal r w ≡ Some s → leb v.length (variable_of vs s).width ≡ true →
-          read_vector_code next (vector_signal r w) r (word_with i w) ≡ with_variables (with_variable_of vs s x) (at next r)
-      go next r i w er ev es el =
-          let el' : leb r.pending.vector.length (variable_of r.variables s).width ≡ true = rw (er, ev) el in
-          rw (es, ex, ← er, ← ev, el')
-
-  pub places_none : (vs' : Variables) → p ≡ placed_with false vs' → Places vs code v p
-  places_none vs' e = rw e (record { some = λ f. clash f refl; takes = λ f. clash f refl })
+-- a variable with a code takes the vector, if it isn't longer
+pub places_some :
+    (vs : Variables) (code : ℕ) (v : Vector) (s : Signal) (x : Variable) (fits : Bool) → (code ≡ 0 → ⊥) → IsCodeOf vs code s →
+    fits ≡ leb v.length (variable_of vs s).width →
+    x ≡ cond fits (variable_with (variable_of vs s).code (variable_of vs s).width v.value) (variable_of vs s) →
+    fits ≡ true → Places vs code v (with_variable_of vs s x)
+unfolding read_vector_code
+places_some vs code v s x fits h named ef ex f =
+    record { some = omega arith; takes = λ to r i w er ev ec. go to r i w er ev (named r w er ec) (sym ef ∙ f) (rw f at ex) }
+  where
+    go : (to : Place) (r : Reader) (i : ℕ) (w : List ℕ) → r.variables ≡ vs → r.pending.vector ≡ v →
+        vector_signal r w ≡ Some s → leb v.length (variable_of vs s).width ≡ true →
+        x ≡ variable_with (variable_of vs s).code (variable_of vs s).width v.value →
+        read_vector_code to (vector_signal r w) r (word_with i w) ≡ with_variables (with_variable_of vs s x) (at to r)
+    go to r i w er ev es el ex' =
+        let el' : leb r.pending.vector.length (variable_of r.variables s).width ≡ true = rw (er, ev) el in
+        rw (es, ex', ← er, ← ev, el')
 
 -- ---- a vector with its code
 
@@ -129,9 +123,6 @@ module _ (u : List ℕ) (known : Bool) (n : ℕ) (e : more_bits (number_with tru
       number_with true known false n
   full = rw all_bits at sum
 
-  number_held : n ≤ 65535
-  number_held = omega (arith, ap (λ (x : Number). x.value) full)
-
   vector_given : bits_vector (min 255 (length u)) known n ≡ vector_of u
   unfolding vector_of value_of
   vector_given = rw (ap (λ (x : Number). x.known) full, ap (λ (x : Number). x.value) full)
@@ -147,44 +138,32 @@ some_bits (b ∷ u) h e = e
 
 module _ (t : List ℕ) (from : ℕ) where
   pub coded_vector :
-      (b : Bits) (i : ℕ) (c : Coded) (v : Vector) (end : ℕ) (g : Given) →
-      BitsThere t from b → b.whole ≡ true → from < b.end → b.end - from ≤ 255 → Skips t b.end i → CodeThere t i c →
-      v ≡ bits_vector (b.end - from) b.known (b.number % 65536) → Skips t c.end end → g ≡ given_with end c.code v →
-      VectorThere t from g
-  coded_vector b i c v end g o whole more short s k ev s' eg = rw eg (λ h. go h (o.end whole) (o.number whole) (k.end h) (k.code h))
-    where
-      go : 0 < c.code → b.end ≡ from + length (word_from t from) →
-          more_bits (number_with true true false 0) (word_from t from) ≡ number_with true b.known false b.number →
-          c.end ≡ i + length (word_from t i) → c.code ≡ code_of (word_from t i) → CodedVector t from (given_with end c.code v)
-      go h ends bits cends code =
-          let u = word_from t from in
-          let there : 0 < code_of (word_from t i) = omega arith in
-          let count : b.end - from ≡ min 255 (length u) = omega arith in
-          let held = number_held u b.known b.number bits in
-          let same : b.number % 65536 ≡ b.number = omega arith in
-          let some = code_some (word_from t i) there in
-          let inside = word_inside t i some in
-          let starts = word_starts t i some in
-          record {
-            at = i;
-            bits = some_bits u (omega arith) (all_bits u b.known b.number bits);
-            vector = rw (ev, count, same) (vector_given u b.known b.number bits);
-            passes = rw (← ends) s.passes;
-            later = omega (arith, s.moves);
-            inside = inside;
-            starts = starts;
-            code = code;
-            rest = rw (← cends) s'.passes;
-            moves = omega (arith, s'.moves);
-            within = s'.within (word_within t i inside starts c.end cends);
-          }
-
-  pub no_vector : (end : ℕ) (v : Vector) (g : Given) → g ≡ given_with end 0 v → VectorThere t from g
-  no_vector end v g e = rw e (λ h. absurd (omega arith))
-
--- the variable of a code that is one
-pub some_code : (answer : Bool) (code own : ℕ) → answer ≡ (ltb 0 code && eqb own code) → not answer ≡ false → 0 < code
-some_code answer code own e h = ltb-true 0 code (and_l (ltb 0 code) (eqb own code) (sym e ∙ not-false answer h))
+      (b : Bits) (i : ℕ) (c : Coded) (v : Vector) (end : ℕ) →
+      BitsThere t from b → b.end - from ≤ 255 → Skips t b.end i → CodeThere t i c →
+      v ≡ bits_vector (b.end - from) b.known b.number → Skips t c.end end →
+      CodedVector t from (record { end = end; code = c.code; vector = v })
+  coded_vector b i c v end o short s k ev s' =
+      let u = word_from t from in
+      let there : 0 < code_of (word_from t i) = omega (arith, k.some, k.code) in
+      let ends : b.end ≡ from + length u = o.end in
+      let count : b.end - from ≡ min 255 (length u) = omega arith in
+      let some = code_some (word_from t i) there in
+      let inside = word_inside t i some in
+      let starts = word_starts t i some in
+      record {
+        at = i;
+        bits = some_bits u (omega (arith, o.some)) (all_bits u b.known b.number o.number);
+        vector = rw (ev, count) (vector_given u b.known b.number o.number);
+        passes = rw (← ends) s.passes;
+        later = omega (arith, s.moves);
+        inside = inside;
+        starts = starts;
+        some = k.some;
+        code = k.code;
+        rest = rw (← k.end) s'.passes;
+        moves = omega (arith, k.end, s'.moves);
+        within = s'.within (word_within t i inside starts c.end k.end);
+      }
 
 -- ---- what words do
 
@@ -265,20 +244,6 @@ pub takes_all :
 takes_all r time opened known n up later room readable =
     record { room = room; gives = λ good i w e et. time_taken r i w time good e et opened known later n up readable room }
 
--- no time, or one that gives a command
-pub no_quiet :
-    (t : List ℕ) (from : ℕ) (opened : Bool) (level : Value) (up : Bool) (time : ℕ) (a : Timed) (i : ℕ) → a ≡ timed_with false i 0 →
-    QuietTime t from opened level up time a
-no_quiet t from opened level up time a i e =
-    rw e
-    (record {
-      there = no_time t from (timed_with false i 0) i refl;
-      is_open = λ f. clash f refl;
-      known = λ f. clash f refl;
-      quiet = λ f. clash f refl;
-      later = λ f. clash f refl;
-    })
-
 -- ---- a text read on
 
 module _ (t : List ℕ) (i : ℕ) (h : i < length t) where
@@ -306,18 +271,22 @@ module _ (t : List ℕ) (i : ℕ) (h : i < length t) where
         follows_then t (follows_first end r r' e g) (follows_skips t end end' r' s)
 
   module _ (r : Reader) (block : Bool) (pl : r.place ≡ change_place block) (good : r.fault.number ≡ 0) where
+    -- the place stays
+    stays : {end : ℕ} (f : Reader → Reader) → Follows t i r end (f (at (change_place block) r)) → Follows t i r end (f r)
+    stays {end} f k = subst (λ (x : Place). Follows t i r end (f (at x r))) (sym pl) k
+
     pub follows_vector :
-        (b : ℕ) (g : Given) (p : Placed) → get_or t i 0 ≡ b → is_binary b ≡ true → CodedVector t (i + 1) g →
-        Places r.variables g.code g.vector p → p.found ≡ true →
-        Follows t i r g.end (with_variables p.variables (at (change_place block) (with_vector g.vector r)))
-    follows_vector b g p eb k v q f =
+        (b : ℕ) (g : Given) (vs : Variables) → get_or t i 0 ≡ b → is_binary b ≡ true → CodedVector t (i + 1) g →
+        Places r.variables g.code g.vector vs → Follows t i r g.end (with_variables vs (with_vector g.vector r))
+    follows_vector b g vs eb k v q =
         let u = word_from t (i + 1) in
         let mid = i + 1 + length u in
         let code = word_from t v.at in
         let over = v.at + length code in
         let r₁ = at (code_place block) (with_vector g.vector r) in
-        let r₂ = with_variables p.variables (at (change_place block) (with_vector g.vector r)) in
-        follows_then t
+        let r₂ = with_variables vs (at (change_place block) (with_vector g.vector r)) in
+        stays (λ (x : Reader). with_variables vs (with_vector g.vector x))
+        (follows_then t
         (follows_first b eb (binary_range b k) mid r r₁ refl
         (read_vector r i u good block pl b k v.bits
         ∙ ap (λ (x : Vector). only (at (code_place block) (with_vector x r))) (sym v.vector)))
@@ -325,72 +294,98 @@ module _ (t : List ℕ) (i : ℕ) (h : i < length t) where
         (follows_then t
         (follows_word t v.at v.inside v.starts over refl r₁ r₂
         (read_code_lem (with_vector g.vector r) v.at code good block
-        ∙ ap only (q.takes f (change_place block) r₁ v.at code refl refl v.code)))
-        (follows_passes t over g.end r₂ v.moves (λ x. v.within) v.rest)))
+        ∙ ap only (q.takes (change_place block) r₁ v.at code refl refl v.code)))
+        (follows_passes t over g.end r₂ v.moves (λ x. v.within) v.rest))))
 
     pub follows_level :
         (b : ℕ) (c : Coded) (end : ℕ) → get_or t i 0 ≡ b → is_bit b ≡ true → CodeThere t (i + 1) c →
-        (ltb 0 c.code && eqb r.variables.stb.code c.code) ≡ true → Skips t c.end end →
-        Follows t i r end (with_variables (with_level r.variables b) (at (change_place block) r))
-    follows_level b c end eb k there e s =
-        let some : 0 < c.code = ltb-true 0 c.code (and_l (ltb 0 c.code) (eqb r.variables.stb.code c.code) e) in
-        let same : r.variables.stb.code ≡ c.code
-        = eqb-true r.variables.stb.code c.code (and_r (ltb 0 c.code) (eqb r.variables.stb.code c.code) e) in
-        let code : c.code ≡ code_of (word_from t (i + 1)) = there.code some in
-        follows_skip b eb (bit_range b k) c.end end r _ (there.end some) s
-        (read_level r i (word_from t (i + 1)) good block pl b k (has_code_lem r (word_from t (i + 1)) Stb (omega arith) (same ∙ code)))
+        r.variables.stb.code ≡ c.code → Skips t c.end end → Follows t i r end (with_variables (with_level r.variables b) r)
+    follows_level b c end eb k there same s =
+        let some : 0 < code_of (word_from t (i + 1)) = omega (arith, there.some, there.code) in
+        stays (λ (x : Reader). with_variables (with_level r.variables b) x)
+        (follows_skip b eb (bit_range b k) c.end end r _ there.end s
+        (read_level r i (word_from t (i + 1)) good block pl b k (has_code_lem r (word_from t (i + 1)) Stb some (same ∙ there.code))))
 
   module _ (r : Reader) (pl : r.place ≡ Body) (good : r.fault.number ≡ 0) where
-    module _ (a : Timed) (eb : get_or t i 0 ≡ 35) (there : TimeThere t (i + 1) a) (whole : a.whole ≡ true) where
+    module _ (a : Timed) (eb : get_or t i 0 ≡ 35) (there : TimeThere t (i + 1) a) where
       is_time_lem : is_time (35 ∷ word_from t (i + 1)) ≡ true
-      is_time_lem = and_in (there.digits whole) (there.fits whole)
-
-      pub follows_time :
-          (end : ℕ) (opened : Bool) → r.stamp.opened ≡ true →
-          QuietTime t (i + 1) opened r.variables.stb.value r.stamp.up r.stamp.time a → Skips t a.end end →
-          Follows t i r end (with_time a.time (with_up (eqb r.variables.stb.value.number 1) r))
-      follows_time end opened o q s =
-          follows_skip 35 eb (omega arith) a.end end r _ (there.end whole) s
-          (read_hash r i (word_from t (i + 1)) good pl
-          ∙ time_quiet r i (35 ∷ word_from t (i + 1)) a.time good is_time_lem (there.time whole) o (q.known whole)
-          (q.later whole) (q.quiet whole))
+      is_time_lem = and_in there.digits there.fits
 
       pub takes_command : Takes r a.time → read_with (after_command r a.time) (strobe_of r) ≡ read_word r (word_with i (word_from t i))
       takes_command k =
           sym
           (ap (λ (w : List ℕ). read_word r (word_with i w)) (word_first 35 eb (omega arith))
           ∙ read_hash r i (word_from t (i + 1)) good pl
-          ∙ k.gives good i (35 ∷ word_from t (i + 1)) is_time_lem (there.time whole))
+          ∙ k.gives good i (35 ∷ word_from t (i + 1)) is_time_lem there.time)
 
--- a reader where changes may stand is one with its own values, time and level
-pub quiet_start :
-    (t : List ℕ) (from i : ℕ) (r : Reader) (block : Bool) → r.place ≡ change_place block → Skips t from i →
-    Follows t from r i (changed_to block r r.variables r.pending.vector r.stamp.time r.stamp.up)
-quiet_start t from i r block pl s = subst (λ (x : Place). Follows t from r i (at x r)) pl (follows_skips t from i r s)
+    pub follows_time :
+        (a : Timed) (end : ℕ) → get_or t i 0 ≡ 35 → QuietTime t (i + 1) r a → Skips t a.end end →
+        Follows t i r end (with_time a.time (with_up (eqb r.variables.stb.value.number 1) r))
+    follows_time a end eb q s =
+        follows_skip 35 eb (omega arith) a.end end r _ q.there.end s
+        (read_hash r i (word_from t (i + 1)) good pl
+        ∙ time_quiet r i (35 ∷ word_from t (i + 1)) a.time good (is_time_lem a eb q.there) q.there.time q.is_open q.known
+        q.later q.quiet)
 
--- the same from a reader with other values, time and level
-module _ (t : List ℕ) (i : ℕ) (h : i < length t) (r : Reader) (good : r.fault.number ≡ 0) (block : Bool)
-    (vs : Variables) (v : Vector) (time : ℕ) (up : Bool) where
-  pub quiet_vector :
-      (b : ℕ) (g : Given) (p : Placed) → get_or t i 0 ≡ b → is_binary b ≡ true → CodedVector t (i + 1) g →
-      Places vs g.code g.vector p → p.found ≡ true →
-      Follows t i (changed_to block r vs v time up) g.end (changed_to block r p.variables g.vector time up)
-  quiet_vector b g p eb k c q f = follows_vector t i h (changed_to block r vs v time up) block refl good b g p eb k c q f
+-- ---- one after another
 
-  pub quiet_level :
+-- where changes may stand, one leaves the reader
+module _ (t : List ℕ) (i : ℕ) (h : i < length t) (r : Reader) (m : MayChange r) where
+  pub passes_vector :
+      (b : ℕ) (g : Given) (vs : Variables) → get_or t i 0 ≡ b → is_binary b ≡ true → CodedVector t (i + 1) g →
+      Places r.variables g.code g.vector vs → QuietWord t i r g.end (with_variables vs (with_vector g.vector r))
+  passes_vector b g vs eb k v q =
+      record {
+        inside = h;
+        moves = omega (arith, v.later, v.moves);
+        quiet =
+            record {
+              follows = follows_vector t i h r (in_block r.place) m.place m.good b g vs eb k v q;
+              changes = record { place = m.place; good = m.good };
+            };
+      }
+
+  pub passes_level :
       (b : ℕ) (c : Coded) (end : ℕ) → get_or t i 0 ≡ b → is_bit b ≡ true → CodeThere t (i + 1) c →
-      (ltb 0 c.code && eqb vs.stb.code c.code) ≡ true → Skips t c.end end →
-      Follows t i (changed_to block r vs v time up) end (changed_to block r (with_level vs b) v time up)
-  quiet_level b c end eb k there e s = follows_level t i h (changed_to block r vs v time up) block refl good b c end eb k there e s
+      r.variables.stb.code ≡ c.code → Skips t c.end end → QuietWord t i r end (with_variables (with_level r.variables b) r)
+  passes_level b c end eb k there same s =
+      record {
+        inside = h;
+        moves = omega (arith, there.end, s.moves);
+        quiet =
+            record {
+              follows = follows_level t i h r (in_block r.place) m.place m.good b c end eb k there same s;
+              changes = record { place = m.place; good = m.good };
+            };
+      }
 
-  pub quiet_time :
-      (a : Timed) (end : ℕ) (ends : Bool) → get_or t i 0 ≡ 35 → ends ≡ (r.stamp.opened && not block) →
-      QuietTime t (i + 1) ends vs.stb.value up time a → a.whole ≡ true → Skips t a.end end →
-      Follows t i (changed_to block r vs v time up) end (changed_to block r vs v a.time (eqb vs.stb.value.number 1))
-  quiet_time a end ends eb e q whole s =
-      let both = sym e ∙ q.is_open whole in
-      let opened = and_l r.stamp.opened (not block) both in
-      let outside = not-true block (and_r r.stamp.opened (not block) both) in
-      let r' = changed_to block r vs v time up in
-      subst (λ (x : Bool). Follows t i r' end (with_stamp (stamp_with x a.time (eqb vs.stb.value.number 1)) r')) (sym opened)
-      (follows_time t i h r' (ap change_place outside) good a eb q.there whole end ends opened q s)
+  pub passes_time :
+      (a : Timed) (end : ℕ) → get_or t i 0 ≡ 35 → QuietTime t (i + 1) r a → Skips t a.end end →
+      QuietWord t i r end (with_time a.time (with_up (eqb r.variables.stb.value.number 1) r))
+  passes_time a end eb q s =
+      record {
+        inside = h;
+        moves = omega (arith, q.there.end, s.moves);
+        quiet =
+            record {
+              follows = follows_time t i h r (m.place ∙ ap change_place q.outside) m.good a end eb q s;
+              changes = record { place = m.place; good = m.good };
+            };
+      }
+
+  -- the place of a block, or outside of one
+  stands : (block : Bool) → change_place block ≡ change_place (in_block (change_place block))
+  stands true = refl
+  stands false = refl
+
+  pub passes_turn : (k : Turned) (end : ℕ) → Turns t i (in_block r.place) k → Skips t k.end end → QuietWord t i r end (at (change_place k.block) r)
+  passes_turn k end u s =
+      record {
+        inside = h;
+        moves = omega (arith, u.moves, s.moves);
+        quiet =
+            record {
+              follows = follows_then t (u.follows r m.place m.good) (follows_skips t k.end end (at (change_place k.block) r) s);
+              changes = record { place = stands k.block; good = m.good };
+            };
+      }

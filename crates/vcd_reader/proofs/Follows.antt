@@ -127,16 +127,17 @@ module _ (t : List ℕ) where
 
   -- words that give no command, and nothing else
   pub advances_quiet :
-      {i j : ℕ} {r r' : Reader} (time : ℕ) → Follows t i r j r' → (i < length t → i < j) →
-      Advances t i r (advanced_with r' j no_strobe time)
+      {i j : ℕ} {r r' : Reader} {a : Advanced} → a ≡ advanced_with r' j no_strobe 0 → Follows t i r j r' → (i < length t → i < j) →
+      Advances t i r a
   unfolding commands_of
-  advances_quiet {i} {j} {r} {r'} time f h =
-      record {
+  advances_quiet {i} {j} {r} {r'} e f h =
+      rw e
+      (record {
         within = f.within;
         moves = h;
         reads = λ cs. f.reads cs ∙ ap (λ (l : List Command). read_words (progress r' l) (words_from t j)) (sym (append-nil cs));
         times = f.times;
-      }
+      })
 
   pub follows_separator : (i : ℕ) (r : Reader) → i < length t → separator (get_or t i 0) ≡ true → Follows t i r (i + 1) r
   follows_separator i r h e = follows_passes i (i + 1) r (omega arith) (λ x. omega arith) (cut_separator t i h e)

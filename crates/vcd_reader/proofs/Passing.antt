@@ -1,7 +1,7 @@
 -- Words that are skipped up to the next $end. Assumes nothing.
---   Reaches, reaches_none, reaches_more    words up to i are passed, and none of them is $end
---   ends_here, ends_nowhere                $end is found, or the text is over
---   passed_by                              a word after which others are skipped, up to their $end
+--   Reaches, reaches_more                  words up to i are passed, and none of them is $end
+--   ends_here                              $end is found
+--   passed_by, passed_ok                   a word after which others are skipped, up to their $end
 --   reads_comment, reads_skipped           the words after which others are skipped
 --   reads_end, reads_dump                  the words that end and begin a block
 --   turns_by, turns_comment                these words and comments, where changes may stand
@@ -13,6 +13,8 @@ use lib.ListN.{length, get_or}
 use native.Mathlib.Omega.{arith}
 use borrow.Author.Tests.{eq-eqb, not-true}
 use Rattle.lists.proofs.Bools.{and_l, and_r, clash}
+use Rattle.std.specs.Prelude.{Option, Some, None, IfSome, Result, Ok, Err, MatchResult}
+use Rattle.std.specs.Result.{result_ok}
 use Rattle.recording.specs.declared.Place.{Place}
 use Rattle.recording.specs.declared.Place.TheVariants.{Definition, SkipDefinition, Body, SkipBody, Block}
 use Rattle.recording.specs.declared.Reader.{Reader}
@@ -20,12 +22,9 @@ use Rattle.recording.specs.Words.{separator, is_text, bytes_of, word_with}
 use Rattle.recording.specs.Records.{at, only}
 use Rattle.recording.specs.Reading.{skipping, is_skipped, starts_time, is_dump, read_definition, read_body, read_block, read_at, read_word}
 use Rattle.vcd_words.proofs.Spells.{same_eq}
-use Rattle.vcd_reader.specs.declared.Ended.{Ended}
-use Rattle.vcd_reader.specs.declared.Turned.{Turned}
 use Rattle.vcd_reader.specs.Advances.{Follows}
 use Rattle.vcd_reader.specs.Runs.{word_from, Skips}
-use Rattle.vcd_reader.specs.Skipping.{ended_with, Spelled, opens_block, Passes, PassedBy, SkipsTo, ToEnd, change_place, turned_with}
-use Rattle.vcd_reader.specs.Skipping.{Turns}
+use Rattle.vcd_reader.specs.Skipping.{Spelled, opens_block, Passes, PassedBy, SkipsTo, ToEnd, NoEnd, change_place, Turns}
 use Rattle.vcd_reader.proofs.Follows.{follows_then, follows_skips, follows_word, word_moves}
 use Rattle.vcd_reader.proofs.Reaching.{word_inside, word_starts}
 
@@ -88,51 +87,32 @@ module _ (t : List ℕ) (from : ℕ) where
     pub stops : i < length t → separator (get_or t i 0) ≡ false
     pub passes : (p q : Place) → SkipsTo p q → Passes p t from i
 
-  pub reaches_none : (i : ℕ) → Skips t from i → Reaches i
-  reaches_none i s =
-      record {
-        least = s.moves;
-        stops = s.stops;
-        passes = λ p q skips r pl good. follows_skips t from i r s;
-      }
-
   module _ (i : ℕ) (o : Reaches i) where
-    module _ (h : i < length t) (e : Ended) (s : Spelled t i (bytes_of "$end") e) where
+    module _ (h : i < length t) where
       pub reaches_more :
-          (end j : ℕ) → e.found ≡ false → end ≡ i + length (word_from t i) → Skips t end j → Reaches j
-      reaches_more end j f q k =
+          (end j : ℕ) → Spelled t i (bytes_of "$end") None → end ≡ i + length (word_from t i) → Skips t end j → Reaches j
+      reaches_more end j s q k =
           record {
             least = omega (arith, o.least, word_moves t i h (o.stops h) end q, k.moves);
             stops = k.stops;
             passes = λ p to skips r pl good.
                 follows_then t (o.passes p to skips r pl good)
                 (follows_then t
-                (follows_word t i h (o.stops h) end q r r (read_passed r i (word_from t i) good p to skips pl (sym s.found ∙ f)))
+                (follows_word t i h (o.stops h) end q r r (read_passed r i (word_from t i) good p to skips pl (sym s.found)))
                 (follows_skips t end j r k));
           }
 
-      pub ends_here : e.found ≡ true → ToEnd t from e
-      ends_here f =
-          let moves = word_moves t i h (o.stops h) e.end (s.end f) in
+      pub ends_here : (end : ℕ) → Spelled t i (bytes_of "$end") (Some end) → ToEnd t from end
+      ends_here end s =
+          let moves = word_moves t i h (o.stops h) end s.end in
           record {
             least = omega (arith, o.least, moves);
             moves = λ x. omega (arith, o.least, moves);
-            ends = λ g p q skips r pl good.
+            ends = λ p q skips r pl good.
                 follows_then t (o.passes p q skips r pl good)
-                (follows_word t i h (o.stops h) e.end (s.end f) r (at q r)
-                (read_end r i (word_from t i) good p q skips pl (sym s.found ∙ f)));
-            passes = λ g. clash f g;
+                (follows_word t i h (o.stops h) end s.end r (at q r)
+                (read_end r i (word_from t i) good p q skips pl (sym s.found)));
           }
-
-    pub ends_nowhere : (e : Ended) → e ≡ ended_with false i → length t ≤ i → ToEnd t from e
-    ends_nowhere e q h =
-        rw q
-        (record {
-          least = o.least;
-          moves = λ x. omega arith;
-          ends = λ g. clash g refl;
-          passes = λ g. o.passes;
-        })
 
 -- a word that passes a test has a byte
 pub some_word : (test : List ℕ → Bool) (w : List ℕ) → test w ≡ true → test [] ≡ false → w ≡ [] → ⊥
@@ -142,46 +122,48 @@ some_word test w e none n = clash e (ap test n ∙ none)
 
 module _ (t : List ℕ) (i : ℕ) (p q : Place) (skips : SkipsTo q p) (some : word_from t i ≡ [] → ⊥)
     (opens : (r : Reader) → r.place ≡ p → r.fault.number ≡ 0 → read_word r (word_with i (word_from t i)) ≡ only (at q r)) where
-  pub passed_by : (end : ℕ) (e : Ended) → end ≡ i + length (word_from t i) → ToEnd t end e → PassedBy p t i e
-  passed_by end e h k =
+  pub passed_by : (end : ℕ) → end ≡ i + length (word_from t i) → (e : ℕ) → ToEnd t end e → PassedBy p t i e
+  passed_by end h e k =
       let inside = word_inside t i some in
       let starts = word_starts t i some in
       record {
-        moves = λ f. omega (arith, word_moves t i inside starts end h, k.least);
-        passes = λ f r pl good.
+        inside = inside;
+        moves = omega (arith, word_moves t i inside starts end h, k.least);
+        passes = λ r pl good.
             follows_then t (follows_word t i inside starts end h r (at q r) (opens r pl good))
-            (subst (λ (x : Reader). Follows t end (at q r) e.end x) (ap (λ (x : Place). at x r) (sym pl))
-            (k.ends f q p skips (at q r) refl good));
+            (subst (λ (x : Reader). Follows t end (at q r) e x) (ap (λ (x : Place). at x r) (sym pl))
+            (k.ends q p skips (at q r) refl good));
       }
 
-pub no_passed : (p : Place) (t : List ℕ) (i : ℕ) (e : Ended) → e.found ≡ false → PassedBy p t i e
-no_passed p t i e f = record { moves = λ g. clash g f; passes = λ g. clash g f }
+-- the answer of a word's end and of the $end after it
+pub passed_ok :
+    {p : Place} {t : List ℕ} {i from : ℕ} (e : Result ℕ ℕ) {r : Option ℕ} → r ≡ result_ok e →
+    MatchResult e (λ end. ToEnd t from end) (λ end. NoEnd t from end) →
+    ((end : ℕ) → ToEnd t from end → PassedBy p t i end) → IfSome r (λ end. PassedBy p t i end)
+passed_ok (Ok end) q k by = rw q (by end k)
+passed_ok (Err end) q k by = rw q tt
 
 -- ---- where changes may stand
 
-module _ (t : List ℕ) (i : ℕ) (block : Bool) (k : Turned) where
+module _ (t : List ℕ) (i : ℕ) (block : Bool) where
   pub turns_by :
-      (found : Bool) (end : ℕ) (next : Bool) → k ≡ turned_with found end next →
-      (found ≡ true → word_from t i ≡ [] → ⊥) → (found ≡ true → end ≡ i + length (word_from t i)) →
-      (found ≡ true → (r : Reader) → r.place ≡ change_place block → r.fault.number ≡ 0 →
+      (end : ℕ) (next : Bool) → (word_from t i ≡ [] → ⊥) → end ≡ i + length (word_from t i) →
+      ((r : Reader) → r.place ≡ change_place block → r.fault.number ≡ 0 →
       read_word r (word_with i (word_from t i)) ≡ only (at (change_place next) r)) →
-      Turns t i block k
-  turns_by found end next e some ends reads =
-      rw e
-      (record {
-        moves = λ f. word_moves t i (word_inside t i (some f)) (word_starts t i (some f)) end (ends f);
-        follows = λ f r pl good.
-            follows_word t i (word_inside t i (some f)) (word_starts t i (some f)) end (ends f) r (at (change_place next) r)
-            (reads f r pl good);
-      })
+      Turns t i block (record { end = end; block = next })
+  turns_by end next some ends reads =
+      let inside = word_inside t i some in
+      let starts = word_starts t i some in
+      record {
+        moves = word_moves t i inside starts end ends;
+        follows = λ r pl good. follows_word t i inside starts end ends r (at (change_place next) r) (reads r pl good);
+      }
 
-  pub turns_comment :
-      block ≡ false → (e : Ended) → k ≡ turned_with true e.end false → e.found ≡ true → PassedBy Body t i e → Turns t i block k
-  turns_comment outside e q f p =
-      rw q
-      (record {
-        moves = λ g. p.moves f;
-        follows = λ g r pl good.
+  pub turns_comment : block ≡ false → (end : ℕ) → PassedBy Body t i end → Turns t i block (record { end = end; block = false })
+  turns_comment outside end p =
+      record {
+        moves = p.moves;
+        follows = λ r pl good.
             let here = pl ∙ ap change_place outside in
-            subst (λ (x : Reader). Follows t i r e.end x) (ap (λ (x : Place). at x r) here) (p.passes f r here good);
-      })
+            subst (λ (x : Reader). Follows t i r end x) (ap (λ (x : Place). at x r) here) (p.passes r here good);
+      }

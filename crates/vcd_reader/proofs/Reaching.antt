@@ -1,30 +1,34 @@
 -- Words that begin at an offset, a byte at a time. Assumes nothing.
+--   some_if                                     an answer under a condition
 --   Within, within_none, within_more, within_all    the bytes of a word up to i
---   is_over, over                               whether a word has a byte
+--   over                                        a word that has no byte
 --   word_inside, word_starts                    a word that has one begins at its offset
---   BitsTo, bits_none, bits_more, ones_more, bits_there    bits up to i, and their number
+--   walked, at_last                             a walk through such a word
+--   BitsTo, bits_more, bits_there               bits up to i, and their number
 --   CodeTo, code_none, code_more, code_there    the bytes of a code up to i, and what they spell
---   TimeTo, time_none, time_more, time_there    decimal digits up to i, and their number
+--   TimeTo, time_there                          decimal digits up to i, and their number
 use Prim.Native.Nat.{ℕ, ◌+◌, ◌*◌, ◌-◌, ◌<◌, ◌≤◌, min}
-use mathlib.Core.Path.{◌≡◌, refl, sym, ap, ◌∙◌}
+use mathlib.Core.Path.{◌≡◌, refl, sym, ap, subst, ◌∙◌}
 use mathlib.Core.List.{List, [], ◌∷◌, map}
-use mathlib.Core.Bool.{Bool, true, false, not, ◌&&◌, ◌||◌, cond}
+use mathlib.Core.Bool.{Bool, true, false, not, ◌&&◌, cond}
 use lib.ListN.{length, get_or}
 use lib.Dec.{ltb, leb, eqb}
 use native.Mathlib.Omega.{arith}
 use borrow.Author.Tests.{ltb-true, ltb-false, leb-true, le-leb, ne_eqb}
+use Rattle.std.specs.Prelude.{Option, IfSome}
+use Rattle.std.specs.Bool.{then_some}
 use Rattle.lists.specs.Numbers.{between}
-use Rattle.lists.proofs.Bools.{and_in, and_l, and_r, or_off, clash, refuted, Flag, on, off, flag}
+use Rattle.lists.proofs.Bools.{and_in, and_l, and_r, clash, refuted, Flag, on, off, flag}
 use Rattle.recording.specs.Words.{separator, all, is_empty}
 use Rattle.recording.specs.Values.{numeral, is_bit, bit_of, is_definite, bit_number, is_digit, digit_of, is_decimal, decimal, code_of}
 use Rattle.recording.specs.Reading.{max_time}
 use Rattle.vcd_words.specs.Partial.{number_with, with_bit, more_bits}
-use Rattle.vcd_words.proofs.Bytes.{above_separators, definite, run_more, run_separator, run_end}
-use Rattle.vcd_words.proofs.Numbers.{digit_range}
-use Rattle.vcd_reader.specs.declared.Bits.{Bits}
-use Rattle.vcd_reader.specs.declared.Coded.{Coded}
-use Rattle.vcd_reader.specs.declared.Timed.{Timed}
-use Rattle.vcd_reader.specs.Runs.{word_from, bits_with, coded_with, timed_with, BitsThere, CodeThere, TimeThere}
+use Rattle.vcd_words.proofs.Bytes.{above_separators, run_more, run_separator, run_end}
+use Rattle.vcd_reader.specs.Runs.{word_from, BitsThere, CodeThere, TimeThere}
+
+pub some_if : {A : Type 0} {r : Option A} {x : A} (P : A → Type 0) (b : Bool) → r ≡ then_some b x → (b ≡ true → P x) → IfSome r P
+some_if P true e h = rw e (h refl)
+some_if P false e h = rw e tt
 
 -- the length of the word is what is passed and what is left
 pub record Within (t : List ℕ) (from i : ℕ) : Type 0 where
@@ -51,14 +55,6 @@ module _ (t : List ℕ) (i : ℕ) (h : i < length t) (k : 32 < get_or t i 0) whe
   word_more : word_from t i ≡ get_or t i 0 ∷ word_from t (i + 1)
   word_more = run_more t i h above_starts
 
--- whether a word has a byte
-pub is_over : (t : List ℕ) (i : ℕ) → i < length t → separator (get_or t i 0) ≡ is_empty (word_from t i)
-is_over t i h = go (flag (separator (get_or t i 0)))
-  where
-    go : Flag (separator (get_or t i 0)) → separator (get_or t i 0) ≡ is_empty (word_from t i)
-    go (on e) = rw (run_separator t i h e, e)
-    go (off e) = rw (run_more t i h e, e)
-
 pub over : (w : List ℕ) {b : Bool} → b ≡ is_empty w → b ≡ true → w ≡ []
 over [] e f = refl
 over (x ∷ w) e f = clash f e
@@ -75,17 +71,24 @@ module _ (t : List ℕ) (i : ℕ) (some : word_from t i ≡ [] → ⊥) where
   pub word_starts : separator (get_or t i 0) ≡ false
   word_starts = refuted (separator (get_or t i 0)) (λ f. some (run_separator t i word_inside f))
 
+-- a word that has a byte has a length
+some_byte : (w : List ℕ) → is_empty w ≡ false → 0 < length w
+some_byte [] h = clash refl h
+some_byte (b ∷ w) h = omega arith
+
+-- a walk through a word that has a byte
+module _ (t : List ℕ) (from i : ℕ) (inside : Within t from i) (some : is_empty (word_from t from) ≡ false) where
+  pub has_byte : word_from t from ≡ [] → ⊥
+  has_byte e = clash (ap is_empty e) some
+
+  pub walked : word_from t i ≡ [] → from < i
+  walked e = omega (arith, within_all t from i inside e, some_byte (word_from t from) some)
+
+  -- it comes to the text's end
+  pub at_last : length t ≤ i → (from ≤ length t → i ≤ length t) → length t ≡ i
+  at_last h k = let start = word_inside t from has_byte in omega (arith, k (omega arith))
+
 -- ---- bits
-
-abbrev pub is_known : ℕ → Bool
-is_known b = eqb b 48 || eqb b 49
-
-pub known_bit : (b : ℕ) → is_known b ≡ true → is_bit b ≡ true
-known_bit b e = go (flag (eqb b 48))
-  where
-    go : Flag (eqb b 48) → is_bit b ≡ true
-    go (on f) = rw f
-    go (off f) = rw (f, or_off (eqb b 48) (eqb b 49) e f)
 
 -- a byte that passes a test is none that doesn't
 pub other_byte : (test : ℕ → Bool) (b c : ℕ) → test b ≡ true → test c ≡ false → eqb b c ≡ false
@@ -112,10 +115,8 @@ bit_range b e = go (flag (ltb 32 b))
 module _ (t : List ℕ) (from : ℕ) where
   pub record BitsTo (known : Bool) (number i : ℕ) : Type 0 where
     pub inside : Within t from i
+    pub held : number ≤ 65535
     pub bits : more_bits (number_with true known false number) (word_from t i) ≡ more_bits (number_with true true false 0) (word_from t from)
-
-  pub bits_none : BitsTo true 0 from
-  bits_none = record { inside = within_none t from; bits = refl }
 
   pub bits_more :
       (known : Bool) (number i : ℕ) (known' : Bool) (number' : ℕ) → BitsTo known number i → i < length t →
@@ -126,29 +127,20 @@ module _ (t : List ℕ) (from : ℕ) where
       let above = bit_range (get_or t i 0) k in
       record {
         inside = within_more t from i o.inside h (above_starts t i h above);
+        held = omega (arith, e);
         bits =
             sym (ap (more_bits (number_with true known false number)) (word_more t i h above) ∙ rw (k, ek, e)) ∙ o.bits;
       }
 
-  -- 0 and 1 leave the number known
-  pub ones_more :
-      (number i number' : ℕ) → BitsTo true number i → i < length t → is_known (get_or t i 0) ≡ true →
-      number' ≡ min 65535 (2 * number + bit_number (bit_of (get_or t i 0))) → BitsTo true number' (i + 1)
-  ones_more number i number' o h k e =
-      bits_more true number i true number' o h (known_bit (get_or t i 0) k) (sym (definite (get_or t i 0) ∙ k)) e
-
-  pub bits_all :
-      (known : Bool) (number i : ℕ) → BitsTo known number i → word_from t i ≡ [] →
-      (i ≡ from + length (word_from t from))
-      × (more_bits (number_with true true false 0) (word_from t from) ≡ number_with true known false number)
-  bits_all known number i o e =
-      (within_all t from i o.inside e, sym o.bits ∙ ap (more_bits (number_with true known false number)) e)
-
   pub bits_there :
-      (b : Bits) (whole known : Bool) (number i : ℕ) → b ≡ bits_with whole known i number → BitsTo known number i →
-      (whole ≡ true → word_from t i ≡ []) → BitsThere t from b
-  bits_there b whole known number i e o h =
-      rw e (record { end = λ f. (bits_all known number i o (h f)).0; number = λ f. (bits_all known number i o (h f)).1 })
+      (known : Bool) (number i end : ℕ) → BitsTo known number i → is_empty (word_from t from) ≡ false → word_from t i ≡ [] → end ≡ i →
+      BitsThere t from (record { known = known; end = end; number = number })
+  bits_there known number i end o some e f =
+      record {
+        some = omega (arith, walked t from i o.inside some e);
+        end = f ∙ within_all t from i o.inside e;
+        number = sym o.bits ∙ ap (more_bits (number_with true known false number)) e;
+      }
 
 -- ---- codes
 
@@ -176,6 +168,13 @@ sized_some code n (one e f) h = refl
 sized_some code n (two e f) h = refl
 sized_some code n (three e f) h = refl
 sized_some code n (four e f) h = refl
+
+sized_above : (code n : ℕ) → Sized code n → 0 < n → 0 < code
+sized_above code n (none e) h = absurd (omega arith)
+sized_above code n (one e f) h = e
+sized_above code n (two e f) h = omega arith
+sized_above code n (three e f) h = omega arith
+sized_above code n (four e f) h = omega arith
 
 module _ (t : List ℕ) (from : ℕ) where
   pub record CodeTo (code i : ℕ) : Type 0 where
@@ -219,20 +218,24 @@ module _ (t : List ℕ) (from : ℕ) where
       let spells : code ≡ numeral 256 0 (word_from t from) = sym (ap (numeral 256 code) e) ∙ o.spells in
       (all_passed, spells ∙ sym (ap (λ (x : Bool). cond x (numeral 256 0 (word_from t from)) 0) (and_in some bytes)))
 
-  pub code_there : (c : Coded) (code i : ℕ) → c ≡ coded_with i code → CodeTo code i → word_from t i ≡ [] → CodeThere t from c
-  code_there c code i e o h = rw e (record { end = λ f. (code_all code i o h f).0; code = λ f. (code_all code i o h f).1 })
+  pub code_there :
+      (code i end : ℕ) → CodeTo code i → is_empty (word_from t from) ≡ false → word_from t i ≡ [] → end ≡ i →
+      CodeThere t from (record { end = end; code = code })
+  code_there code i end o some e f =
+      let above : 0 < code = sized_above code (i - from) o.size (omega (arith, walked t from i o.inside some e)) in
+      record { some = above; end = f ∙ (code_all code i o e above).0; code = (code_all code i o e above).1 }
 
   -- a code of one byte
   pub one_code :
-      (c : Coded) → c ≡ coded_with (from + 1) (get_or t from 0) → from < length t → between 33 126 (get_or t from 0) ≡ true →
-      word_from t (from + 1) ≡ [] → CodeThere t from c
-  one_code c e h k over =
-      let same : get_or t from 0 ≡ 0 * 256 + get_or t from 0 = omega arith in
-      code_there c (0 * 256 + get_or t from 0) (from + 1) (e ∙ ap (coded_with (from + 1)) same)
-      (code_more 0 from code_none h k (omega arith)) over
-
-  pub no_code : (c : Coded) (i : ℕ) → c ≡ coded_with i 0 → CodeThere t from c
-  no_code c i e = rw e (record { end = λ f. absurd (omega arith); code = λ f. absurd (omega arith) })
+      (code : ℕ) → code ≡ get_or t from 0 → from < length t → between 33 126 (get_or t from 0) ≡ true →
+      word_from t (from + 1) ≡ [] → CodeThere t from (record { end = from + 1; code = code })
+  one_code code e h k over =
+      let range = printable_range (get_or t from 0) k in
+      let above : 32 < get_or t from 0 = omega (arith, range.0) in
+      let same : 0 * 256 + get_or t from 0 ≡ code = omega (arith, e) in
+      subst (λ (x : ℕ). CodeThere t from (record { end = from + 1; code = x })) same
+      (code_there (0 * 256 + get_or t from 0) (from + 1) (from + 1)
+      (code_more 0 from code_none h k (omega arith)) (ap is_empty (word_more t from h above)) over refl)
 
 -- ---- times
 
@@ -243,39 +246,12 @@ module _ (t : List ℕ) (from : ℕ) where
     pub digits : all is_digit (word_from t i) ≡ all is_digit (word_from t from)
     pub spells : numeral 10 time (map digit_of (word_from t i)) ≡ numeral 10 0 (map digit_of (word_from t from))
 
-  pub time_none : TimeTo 0 from
-  time_none = record { inside = within_none t from; small = omega arith; digits = refl; spells = refl }
-
-  pub time_more :
-      (time i : ℕ) → TimeTo time i → i < length t → is_digit (get_or t i 0) ≡ true → time < 1844674407370955161 →
-      TimeTo (time * 10 + (get_or t i 0 - 48)) (i + 1)
-  time_more time i o h k l =
-      let range = digit_range (get_or t i 0) k in
-      let above : 32 < get_or t i 0 = omega (arith, range.0) in
-      let more = word_more t i h above in
-      let value : time * 10 + (get_or t i 0 - 48) ≡ 10 * time + digit_of (get_or t i 0) = omega arith in
-      record {
-        inside = within_more t from i o.inside h (above_starts t i h above);
-        small = omega (arith, range.0, range.1);
-        digits = sym (ap (all is_digit) more ∙ rw k) ∙ o.digits;
-        spells =
-            ap (λ (v : ℕ). numeral 10 v (map digit_of (word_from t (i + 1)))) value
-            ∙ sym (ap (λ (w : List ℕ). numeral 10 time (map digit_of w)) more) ∙ o.spells;
-      }
-
-  -- a word with a byte is not empty
-  some_byte : (w : List ℕ) → 0 < length w → is_empty w ≡ false
-  some_byte [] h = absurd (omega arith)
-  some_byte (b ∷ w) h = refl
-
   module _ (time i : ℕ) (o : TimeTo time i) (e : word_from t i ≡ []) where
     pub time_end : i ≡ from + length (word_from t from)
     time_end = within_all t from i o.inside e
 
-    pub time_digits : from < i → is_decimal (word_from t from) ≡ true
-    time_digits h =
-        let some : is_empty (word_from t from) ≡ false = some_byte (word_from t from) (omega (arith, time_end)) in
-        and_in (ap not some) (sym o.digits ∙ ap (all is_digit) e)
+    pub time_digits : is_empty (word_from t from) ≡ false → is_decimal (word_from t from) ≡ true
+    time_digits some = and_in (ap not some) (sym o.digits ∙ ap (all is_digit) e)
 
     pub time_same : time ≡ decimal (word_from t from)
     unfolding decimal
@@ -285,23 +261,12 @@ module _ (t : List ℕ) (from : ℕ) where
     time_fits = rw (← time_same) (le-leb time max_time (omega (arith, o.small)))
 
   pub time_there :
-      (a : Timed) (whole : Bool) (time i : ℕ) → a ≡ timed_with whole i time → TimeTo time i → from < i →
-      (whole ≡ true → word_from t i ≡ []) → TimeThere t from a
-  time_there a whole time i e o l h =
-      rw e
-      (record {
-        end = λ f. time_end time i o (h f);
-        digits = λ f. time_digits time i o (h f) l;
-        fits = λ f. time_fits time i o (h f);
-        time = λ f. time_same time i o (h f);
-      })
-
-  pub no_time : (a : Timed) (i : ℕ) → a ≡ timed_with false i 0 → TimeThere t from a
-  no_time a i e =
-      rw e
-      (record {
-        end = λ f. clash f refl;
-        digits = λ f. clash f refl;
-        fits = λ f. clash f refl;
-        time = λ f. clash f refl;
-      })
+      (time i end : ℕ) → TimeTo time i → is_empty (word_from t from) ≡ false → word_from t i ≡ [] → end ≡ i →
+      TimeThere t from (record { end = end; time = time })
+  time_there time i end o some e f =
+      record {
+        end = f ∙ time_end time i o e;
+        digits = time_digits time i o e some;
+        fits = time_fits time i o e;
+        time = time_same time i o e;
+      }

@@ -1,35 +1,27 @@
 -- Changes and times that give no command, and the word that gives one. A helper of contracts; nothing here needs to be believed.
 -- Assumes nothing.
---   changed_to block r ..    a reader where changes may stand, with other values, time and level
 --   Places            the variable of a code takes a vector
 --   Takes r time      the word # with this time gives a command
 use Rattle.std.specs.Prelude.{ℕ, suc, ◌+◌, ◌<◌, ◌≤◌, ◌≡◌, List, ◌∷◌, Bool, true, false, not, ◌&&◌, cond, length, get_or, eqb}
 use Rattle.recording.specs.declared.Place.{Place}
 use Rattle.recording.specs.declared.Signal.TheVariants.{Stb}
-use Rattle.recording.specs.declared.Value.{Value}
 use Rattle.recording.specs.declared.Vector.{Vector}
 use Rattle.recording.specs.declared.Variables.{Variables}
 use Rattle.recording.specs.declared.Reader.{Reader}
 use Rattle.recording.specs.Words.{separator, word_with}
 use Rattle.recording.specs.Values.{value, unknown, vector_with, vector_of, code_of}
-use Rattle.recording.specs.Records.{variable_with, with_variable_of, reader_with, pending_with, stamp_with, at, with_up, with_taken, with_time}
+use Rattle.recording.specs.Records.{variable_with, with_variable_of, reader_with, at, with_up, with_taken, with_time}
 use Rattle.recording.specs.Records.{read_with}
 use Rattle.recording.specs.Stamps.{strobe_of}
 use Rattle.recording.specs.Reading.{is_vector, vector_signal, read_vector_code, is_time, time_of, read_time}
 use Rattle.vcd_words.specs.Partial.{bit_value}
 use Rattle.vcd_reader.specs.declared.Given.{Given}
-use Rattle.vcd_reader.specs.declared.Placed.{Placed}
-use Rattle.vcd_reader.specs.declared.Passed.{Passed}
-use Rattle.vcd_reader.specs.declared.Standing.{Standing}
 use Rattle.vcd_reader.specs.declared.Timed.{Timed}
 use Rattle.vcd_reader.specs.Advances.{words_from, Follows}
 use Rattle.vcd_reader.specs.Runs.{word_from, TimeThere}
-use Rattle.vcd_reader.specs.Skipping.{change_place}
+use Rattle.vcd_reader.specs.Skipping.{change_place, in_block}
 
 -- ---- vectors
-
-abbrev pub given_with : ℕ → ℕ → Vector → Given
-given_with end code v = record { end = end; code = code; vector = v }
 
 abbrev pub bits_vector : ℕ → Bool → ℕ → Vector
 bits_vector length known number = vector_with length (cond known (value true number) unknown)
@@ -43,26 +35,21 @@ pub record CodedVector (t : List ℕ) (from : ℕ) (g : Given) : Type 0 where
   pub later : from + length (word_from t from) ≤ at
   pub inside : at < length t
   pub starts : separator (get_or t at 0) ≡ false
+  pub some : 0 < g.code
   pub code : g.code ≡ code_of (word_from t at)
   pub rest : words_from t (at + length (word_from t at)) ≡ words_from t g.end
   pub moves : at + length (word_from t at) ≤ g.end
   pub within : g.end ≤ length t
 
-abbrev pub VectorThere : List ℕ → ℕ → Given → Type 0
-VectorThere t from g = 0 < g.code → CodedVector t from g
-
-abbrev pub placed_with : Bool → Variables → Placed
-placed_with found vs = record { found = found; variables = vs }
-
 abbrev pub with_variables : Variables → Reader → Reader
 with_variables vs r = reader_with r.place r.pending vs r.stamp r.taken r.fault
 
 -- The code that a word spells names a variable that takes the vector.
-pub record Places (vs : Variables) (code : ℕ) (v : Vector) (p : Placed) : Type 0 where
-  pub some : p.found ≡ true → 0 < code
+pub record Places (vs : Variables) (code : ℕ) (v : Vector) (next : Variables) : Type 0 where
+  pub some : 0 < code
   pub takes :
-      p.found ≡ true → (next : Place) (r : Reader) (i : ℕ) (w : List ℕ) → r.variables ≡ vs → r.pending.vector ≡ v →
-      code ≡ code_of w → read_vector_code next (vector_signal r w) r (word_with i w) ≡ with_variables p.variables (at next r)
+      (to : Place) (r : Reader) (i : ℕ) (w : List ℕ) → r.variables ≡ vs → r.pending.vector ≡ v → code ≡ code_of w →
+      read_vector_code to (vector_signal r w) r (word_with i w) ≡ with_variables next (at to r)
 
 -- ---- stb
 
@@ -71,30 +58,30 @@ with_level vs b = with_variable_of vs Stb (variable_with vs.stb.code vs.stb.widt
 
 -- ---- times
 
-pub record QuietTime (t : List ℕ) (from : ℕ) (opened : Bool) (level : Value) (up : Bool) (time : ℕ) (a : Timed) : Type 0 where
+pub record QuietTime (t : List ℕ) (from : ℕ) (r : Reader) (a : Timed) : Type 0 where
   pub there : TimeThere t from a
-  pub is_open : a.whole ≡ true → opened ≡ true
-  pub known : a.whole ≡ true → level.known ≡ true
-  pub quiet : a.whole ≡ true → (eqb level.number 1 && not up) ≡ false
-  pub later : a.whole ≡ true → time < a.time
+  pub outside : in_block r.place ≡ false
+  pub is_open : r.stamp.opened ≡ true
+  pub known : r.variables.stb.value.known ≡ true
+  pub quiet : (eqb r.variables.stb.value.number 1 && not r.stamp.up) ≡ false
+  pub later : r.stamp.time < a.time
 
 -- ---- the reader
 
-abbrev pub passed_with : ℕ → Reader → Bool → Passed
-passed_with end r block = record { end = end; reader = r; block = block }
+-- changes may stand here
+pub record MayChange (r : Reader) : Type 0 where
+  pub place : r.place ≡ change_place (in_block r.place)
+  pub good : r.fault.number ≡ 0
 
-abbrev pub standing_with : Bool → Bool → Standing
-standing_with changes block = record { changes = changes; block = block }
+pub record Quiet (t : List ℕ) (i : ℕ) (r : Reader) (j : ℕ) (r' : Reader) : Type 0 where
+  pub follows : Follows t i r j r'
+  pub changes : MayChange r'
 
-abbrev pub changed_to : Bool → Reader → Variables → Vector → ℕ → Bool → Reader
-changed_to block r vs v time up =
-    reader_with (change_place block) (pending_with r.pending.width r.pending.code v) vs (stamp_with r.stamp.opened time up)
-    r.taken r.fault
-
-pub record Quiet (t : List ℕ) (from : ℕ) (r : Reader) (p : Passed) : Type 0 where
-  pub follows : Follows t from r p.end p.reader
-  pub place : p.reader.place ≡ change_place p.block
-  pub good : p.reader.fault.number ≡ 0
+-- a word of the text is read, at least
+pub record QuietWord (t : List ℕ) (i : ℕ) (r : Reader) (j : ℕ) (r' : Reader) : Type 0 where
+  pub inside : i < length t
+  pub moves : i < j
+  pub quiet : Quiet t i r j r'
 
 -- ---- the word that gives a command
 

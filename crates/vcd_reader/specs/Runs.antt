@@ -1,7 +1,7 @@
 -- What a word is that begins at an offset. A helper of contracts; nothing here needs to be believed. Assumes nothing.
 --   word_from t i      the bytes of the word from an offset on
 --   Skips t i j       from i up to j there are only separators, and at j there is none
-use Rattle.std.specs.Prelude.{ℕ, ◌+◌, ◌<◌, ◌≤◌, ◌≡◌, List, Bool, true, false, length, get_or, drop, leb}
+use Rattle.std.specs.Prelude.{ℕ, ◌+◌, ◌<◌, ◌≤◌, ◌≡◌, List, true, false, length, get_or, drop, leb}
 use Rattle.recording.specs.Words.{separator}
 use Rattle.recording.specs.Values.{code_of, is_decimal, decimal}
 use Rattle.recording.specs.Reading.{max_time}
@@ -22,31 +22,23 @@ pub record Skips (t : List ℕ) (from end : ℕ) : Type 0 where
 
 -- ---- bits
 
-abbrev pub bits_with : Bool → Bool → ℕ → ℕ → Bits
-bits_with whole known end number = record { whole = whole; known = known; end = end; number = number }
-
 -- Every byte of the word is a bit, and this is their number, where they are all known.
 pub record BitsThere (t : List ℕ) (from : ℕ) (b : Bits) : Type 0 where
-  pub end : b.whole ≡ true → b.end ≡ from + length (word_from t from)
-  pub number :
-      b.whole ≡ true → more_bits (number_with true true false 0) (word_from t from) ≡ number_with true b.known false b.number
+  pub some : from < b.end
+  pub end : b.end ≡ from + length (word_from t from)
+  pub number : more_bits (number_with true true false 0) (word_from t from) ≡ number_with true b.known false b.number
 
 -- ---- codes
 
-abbrev pub coded_with : ℕ → ℕ → Coded
-coded_with end code = record { end = end; code = code }
-
 pub record CodeThere (t : List ℕ) (from : ℕ) (c : Coded) : Type 0 where
-  pub end : 0 < c.code → c.end ≡ from + length (word_from t from)
-  pub code : 0 < c.code → c.code ≡ code_of (word_from t from)
+  pub some : 0 < c.code
+  pub end : c.end ≡ from + length (word_from t from)
+  pub code : c.code ≡ code_of (word_from t from)
 
 -- ---- times
 
-abbrev pub timed_with : Bool → ℕ → ℕ → Timed
-timed_with whole end time = record { whole = whole; end = end; time = time }
-
 pub record TimeThere (t : List ℕ) (from : ℕ) (a : Timed) : Type 0 where
-  pub end : a.whole ≡ true → a.end ≡ from + length (word_from t from)
-  pub digits : a.whole ≡ true → is_decimal (word_from t from) ≡ true
-  pub fits : a.whole ≡ true → leb (decimal (word_from t from)) max_time ≡ true
-  pub time : a.whole ≡ true → a.time ≡ decimal (word_from t from)
+  pub end : a.end ≡ from + length (word_from t from)
+  pub digits : is_decimal (word_from t from) ≡ true
+  pub fits : leb (decimal (word_from t from)) max_time ≡ true
+  pub time : a.time ≡ decimal (word_from t from)

@@ -3,32 +3,28 @@ ghost use Rattle.std.specs.Prelude.{◌<◌, ◌≡◌, true, length};
 ghost use Rattle.recording.specs.declared.Place.TheVariants.{Definition};
 ghost use Rattle.recording.specs.Records.{no_strobe};
 ghost use Rattle.vcd_reader.specs.Advances.{advanced_with, Advances};
-ghost use Rattle.vcd_reader.specs.Skipping.{SkipsTo, change_place};
-ghost use Rattle.vcd_reader.specs.Changes.{standing_with, after_command, Takes};
+ghost use Rattle.vcd_reader.specs.Skipping.{SkipsTo};
+ghost use Rattle.vcd_reader.specs.Changes.{MayChange, after_command, Takes};
 
-use crate::{Advanced, Standing, changes, runs, skipping};
-use recording::{Place, Reader, Strobe};
-use vcd_words::{readers, scanning, stamps, words};
+use crate::{Advanced, changes, runs, skipping};
+use recording::{Place, Reader, Stamp, Strobe};
+use vcd_words::{scanning, stamps, words};
 
-fn advanced_with(r: Reader, end: usize, s: Strobe, time: u64) -> Advanced
-    ensures { result ≡ advanced_with r end s time }
+// No command is given up to an offset.
+fn no_command(reader: Reader, end: usize) -> Advanced
+    ensures { result ≡ advanced_with reader end no_strobe 0 }
 {
-    Advanced {
-        reader: r,
-        end,
-        strobe: s,
-        time,
-    }
-}
-
-fn no_strobe() -> Strobe
-    ensures { result ≡ no_strobe }
-{
-    Strobe {
+    let strobe = Strobe {
         given: false,
         number: 0,
         target: 0,
         level: 0,
+    };
+    Advanced {
+        reader,
+        end,
+        strobe,
+        time: 0,
     }
 }
 
@@ -38,11 +34,16 @@ fn any_word(text: &[u8], i: usize, r: Reader) -> Advanced
     ensures { Advances text.now i r result }
 {
     if scanning::is_separator(text[i]) {
-        return advanced_with(r, i + 1, no_strobe(), 0);
+        return no_command(r, i + 1);
     }
     let s = scanning::scan(text, i, scanning::nothing());
     let a = words::word(r, i as u64, s.partial);
-    advanced_with(a.reader, s.end, a.strobe, r.stamp.time)
+    Advanced {
+        reader: a.reader,
+        end: s.end,
+        strobe: a.strobe,
+        time: r.stamp.time,
+    }
 }
 
 // ---- the word that gives a command
@@ -51,80 +52,53 @@ fn any_word(text: &[u8], i: usize, r: Reader) -> Advanced
 fn takes(r: Reader, time: u64) -> bool
     ensures { result ≡ true → Takes r time }
 {
-    if !r.stamp.opened {
-        return false;
-    }
-    if !r.variables.stb.value.known {
-        return false;
-    }
-    if r.variables.stb.value.number != 1 {
-        return false;
-    }
-    if r.stamp.up {
-        return false;
-    }
-    if time <= r.stamp.time {
-        return false;
-    }
-    if 65535 <= r.taken {
-        return false;
-    }
-    stamps::is_readable(r)
+    let stb = r.variables.stb.value;
+    r.stamp.opened
+        && stb.known
+        && stb.number == 1
+        && !r.stamp.up
+        && r.stamp.time < time
+        && r.taken < u16::MAX
+        && stamps::is_readable(r)
 }
 
 fn taken_at(r: Reader, time: u64) -> Reader
     requires { r.taken < 65535 }
     ensures { result ≡ after_command r time }
 {
-    let mut next = r;
-    next.stamp.opened = true;
-    next.stamp.time = time;
-    next.stamp.up = true;
-    next.taken = r.taken + 1;
-    next
-}
-
-fn standing_with(changes: bool, block: bool) -> Standing
-    ensures { result ≡ standing_with changes block }
-{
-    Standing { changes, block }
-}
-
-fn standing_at(place: Place) -> Standing
-    ensures { result.changes ≡ true → place ≡ change_place result.block }
-{
-    match place {
-        Place::Body => standing_with(true, false),
-        Place::Block => standing_with(true, true),
-        _ => standing_with(false, false),
+    let stamp = Stamp {
+        opened: true,
+        time,
+        up: true,
+    };
+    Reader {
+        stamp,
+        taken: r.taken + 1,
+        ..r
     }
 }
 
 // Changes and times, then the word that stops them.
-fn after_changes(text: &[u8], from: usize, r: Reader, block: bool) -> Advanced
-    requires { (from < length text.now) × (r.place ≡ change_place block) × (r.fault.number ≡ 0) }
+fn after_changes(text: &[u8], from: usize, r: Reader) -> Advanced
+    requires { (from < length text.now) × MayChange r }
     ensures { Advances text.now from r result }
 {
-    let p = changes::quiet(text, from, r, block);
+    let p = changes::quiet(text, from, r);
     let i = p.end;
-    if text.len() <= i {
-        return advanced_with(p.reader, i, no_strobe(), 0);
+    if i >= text.len() {
+        return no_command(p.reader, i);
     }
-    if p.block {
-        return any_word(text, i, p.reader);
-    }
-    if text[i] == 35 {
-        let t = runs::time_at(text, i + 1);
-        if t.whole {
-            if takes(p.reader, t.time) {
-                return advanced_with(
-                    taken_at(p.reader, t.time),
-                    t.end,
-                    stamps::strobe(p.reader),
-                    p.reader.stamp.time,
-                );
-            }
-        }
+    if !changes::is_block(p.reader.place)
+        && text[i] == b'#'
+        && let Some(t) = runs::time_at(text, i + 1)
+        && takes(p.reader, t.time)
+    {
+        return Advanced {
+            reader: taken_at(p.reader, t.time),
+            end: t.end,
+            strobe: stamps::strobe(p.reader),
+            time: p.reader.stamp.time,
+        };
     }
     any_word(text, i, p.reader)
 }
@@ -136,11 +110,10 @@ fn after_skipped(text: &[u8], from: usize, r: Reader, next: Place) -> Advanced
     requires { (r.fault.number ≡ 0) × SkipsTo r.place next }
     ensures { Advances text.now from r result }
 {
-    let e = skipping::to_end(text, from);
-    if e.found {
-        return advanced_with(readers::at(r, next), e.end, no_strobe(), 0);
+    match skipping::to_end(text, from) {
+        Ok(end) => no_command(Reader { place: next, ..r }, end),
+        Err(end) => no_command(r, end),
     }
-    advanced_with(r, e.end, no_strobe(), 0)
 }
 
 // Definitions that are skipped, then the word that stops them.
@@ -149,10 +122,11 @@ fn after_definitions(text: &[u8], from: usize, r: Reader) -> Advanced
     ensures { Advances text.now from r result }
 {
     let i = skipping::definitions(text, from);
-    if text.len() <= i {
-        return advanced_with(r, i, no_strobe(), 0);
+    if i < text.len() {
+        any_word(text, i, r)
+    } else {
+        no_command(r, i)
     }
-    any_word(text, i, r)
 }
 
 // ---- all of it
@@ -162,18 +136,14 @@ fn after_definitions(text: &[u8], from: usize, r: Reader) -> Advanced
 pub fn advance(text: &[u8], from: usize, r: Reader) -> Advanced
     ensures { Advances text.now from r result }
 {
-    if text.len() <= from {
-        return advanced_with(r, from, no_strobe(), 0);
+    if from >= text.len() {
+        return no_command(r, from);
     }
     if r.fault.number != 0 {
-        return advanced_with(r, text.len(), no_strobe(), 0);
+        return no_command(r, text.len());
     }
-    let place = r.place;
-    let here = standing_at(place);
-    if here.changes {
-        return after_changes(text, from, r, here.block);
-    }
-    match place {
+    match r.place {
+        Place::Body | Place::Block => after_changes(text, from, r),
         Place::SkipBody => after_skipped(text, from, r, Place::Body),
         Place::Definition => after_definitions(text, from, r),
         Place::SkipDefinition => after_skipped(text, from, r, Place::Definition),

@@ -1,79 +1,45 @@
 // Words that are told by their spelling.
-ghost use Rattle.std.specs.Prelude.{◌<◌, ◌≡◌, true, ltb};
-ghost use Rattle.recording.specs.Words.{all, bytes_of};
+ghost use Rattle.std.specs.Prelude.{◌<◌, ◌≡◌, true, ltb, IfSome};
+ghost use Rattle.recording.specs.Words.{all};
 ghost use Rattle.recording.specs.Reading.{is_skipped};
-ghost use Rattle.vcd_reader.specs.Skipping.{ended_with, Spelled, Told, OrSpelled, opens_block};
+ghost use Rattle.vcd_reader.specs.Skipping.{Spelled, Told, opens_block};
 
-use crate::{Ended, runs};
+use crate::runs;
 
-pub fn ended_with(found: bool, end: usize) -> Ended
-    ensures { result ≡ ended_with found end }
-{
-    Ended { found, end }
-}
-
-// Whether the word at an offset has these bytes, which are no separators.
-fn spelled(text: &[u8], at: usize, letters: &[u8]) -> Ended
+// Where the word at an offset ends, if it has these bytes, which are no separators.
+pub fn spelled(text: &[u8], at: usize, letters: &[u8]) -> Option<usize>
     requires { all (ltb 32) letters.now ≡ true }
     ensures { Spelled text.now at letters.now result }
 {
-    let mut i = at;
-    let mut j = 0;
-    while j < letters.len() {
-        if text.len() <= i {
-            return ended_with(false, at);
+    let mut end = at;
+    for letter in letters {
+        if end >= text.len() || text[end] != *letter {
+            return None;
         }
-        if text[i] != letters[j] {
-            return ended_with(false, at);
-        }
-        i += 1;
-        j += 1;
+        end += 1;
     }
-    ended_with(runs::is_end(text, i), i)
+    runs::is_end(text, end).then_some(end)
 }
 
-pub fn end_at(text: &[u8], at: usize) -> Ended
-    ensures { Spelled text.now at (bytes_of "$end") result }
+// Where the first word of a block ends.
+#[inline(never)]
+pub fn dump_at(text: &[u8], at: usize) -> Option<usize>
+    ensures { IfSome result (λ end. Told opens_block text.now at end) }
 {
-    spelled(text, at, b"$end")
+    spelled(text, at, b"$dumpvars")
+        .or_else(|| spelled(text, at, b"$dumpall"))
+        .or_else(|| spelled(text, at, b"$dumpon"))
+        .or_else(|| spelled(text, at, b"$dumpoff"))
 }
 
-pub fn comment_at(text: &[u8], at: usize) -> Ended
-    ensures { Spelled text.now at (bytes_of "$comment") result }
+// Where the first word of a definition ends that is skipped.
+pub fn skipped_at(text: &[u8], at: usize) -> Option<usize>
+    ensures { IfSome result (λ end. Told is_skipped text.now at end) }
 {
     spelled(text, at, b"$comment")
-}
-
-// The word that is found before, or else the word at the offset, if it has these bytes.
-fn or_spelled(before: Ended, text: &[u8], at: usize, letters: &[u8]) -> Ended
-    requires { all (ltb 32) letters.now ≡ true }
-    ensures { OrSpelled text.now at before letters.now result }
-{
-    if before.found {
-        return before;
-    }
-    spelled(text, at, letters)
-}
-
-// The first word of a block.
-#[inline(never)]
-pub fn dump_at(text: &[u8], at: usize) -> Ended
-    ensures { Told opens_block text.now at result }
-{
-    let vars = spelled(text, at, b"$dumpvars");
-    let all = or_spelled(vars, text, at, b"$dumpall");
-    let on = or_spelled(all, text, at, b"$dumpon");
-    or_spelled(on, text, at, b"$dumpoff")
-}
-
-// The first word of a definition that is skipped.
-pub fn skipped_at(text: &[u8], at: usize) -> Ended
-    ensures { Told is_skipped text.now at result }
-{
-    let comment = spelled(text, at, b"$comment");
-    let date = or_spelled(comment, text, at, b"$date");
-    let version = or_spelled(date, text, at, b"$version");
-    let timescale = or_spelled(version, text, at, b"$timescale");
-    let scope = or_spelled(timescale, text, at, b"$scope");
-    or_spelled(scope, text, at, b"$upscope")
+        .or_else(|| spelled(text, at, b"$date"))
+        .or_else(|| spelled(text, at, b"$version"))
+        .or_else(|| spelled(text, at, b"$timescale"))
+        .or_else(|| spelled(text, at, b"$scope"))
+        .or_else(|| spelled(text, at, b"$upscope"))
 }

@@ -1,8 +1,7 @@
 // Words that begin at an offset, each byte read once. Each answers for the usual word, and leaves the others to vcd_words.
-ghost use Rattle.std.specs.Prelude.{◌+◌, ◌≡◌, ◌||◌, length, eqb};
-ghost use Rattle.lists.specs.Numbers.{between};
+ghost use Rattle.std.specs.Prelude.{◌+◌, ◌≡◌, length, IfSome};
 ghost use Rattle.recording.specs.Words.{is_empty};
-ghost use Rattle.vcd_reader.specs.Runs.{word_from, bits_with, coded_with, timed_with, BitsThere, CodeThere, TimeThere, Skips};
+ghost use Rattle.vcd_reader.specs.Runs.{word_from, BitsThere, CodeThere, TimeThere, Skips};
 
 use crate::{Bits, Coded, Timed};
 use vcd_words::scanning;
@@ -11,197 +10,122 @@ use vcd_words::scanning;
 pub fn is_end(text: &[u8], at: usize) -> bool
     ensures { result ≡ is_empty (word_from text.now at) }
 {
-    if at < text.len() {
-        return scanning::is_separator(text[at]);
-    }
-    true
+    at >= text.len() || scanning::is_separator(text[at])
 }
 
 // The next byte that is no separator, or the end of the text.
 pub fn skip(text: &[u8], from: usize) -> usize
     ensures { Skips text.now from result }
 {
-    let mut i = from;
-    while i < text.len() {
+    for i in from..text.len() {
         if !scanning::is_separator(text[i]) {
-            break;
+            return i;
         }
-        i += 1;
     }
-    i
+    from.max(text.len())
 }
 
 // The first separator, or the end of the text.
 pub fn past(text: &[u8], from: usize) -> usize
     ensures { result ≡ from + length (word_from text.now from) }
 {
-    let mut i = from;
-    while i < text.len() {
+    for i in from..text.len() {
         if scanning::is_separator(text[i]) {
-            break;
+            return i;
         }
-        i += 1;
     }
-    i
+    from.max(text.len())
 }
 
 // ---- bits
 
-// 0 or 1.
-fn is_known(b: u8) -> bool
-    ensures { result ≡ (eqb b 48 || eqb b 49) }
+// The word of bits at an offset.
+pub fn bits(text: &[u8], from: usize) -> Option<Bits>
+    ensures { IfSome result (λ b. BitsThere text.now from b) }
 {
-    if b == 48 {
-        return true;
+    if is_end(text, from) {
+        return None;
     }
-    b == 49
-}
-
-fn bits_with(whole: bool, known: bool, end: usize, number: u64) -> Bits
-    ensures { result ≡ bits_with whole known end number }
-{
-    Bits {
-        whole,
-        known,
-        end,
-        number,
-    }
-}
-
-fn ones(text: &[u8], from: usize) -> Bits
-    ensures { BitsThere text.now from result }
-{
-    let mut number = 0u64;
-    let mut i = from;
-    while i < text.len() {
-        let b = text[i];
-        if !is_known(b) {
-            break;
-        }
-        number = scanning::with_bit(number, b);
-        i += 1;
-    }
-    bits_with(is_end(text, i), true, i, number)
-}
-
-// With x and z among them.
-fn mixed(text: &[u8], from: usize) -> Bits
-    ensures { BitsThere text.now from result }
-{
-    let mut number = 0u64;
+    let mut number = 0;
     let mut known = true;
-    let mut i = from;
-    while i < text.len() {
-        let b = text[i];
+    for end in from..text.len() {
+        let b = text[end];
         if !scanning::is_bit(b) {
-            break;
+            return scanning::is_separator(b).then_some(Bits {
+                known,
+                end,
+                number: number as u16,
+            });
         }
         number = scanning::with_bit(number, b);
         known = scanning::still_known(known, b);
-        i += 1;
     }
-    bits_with(is_end(text, i), known, i, number)
-}
-
-// Most are 0 and 1.
-pub fn bits(text: &[u8], from: usize) -> Bits
-    ensures { BitsThere text.now from result }
-{
-    let b = ones(text, from);
-    if b.whole {
-        return b;
-    }
-    mixed(text, from)
+    Some(Bits {
+        known,
+        end: text.len(),
+        number: number as u16,
+    })
 }
 
 // ---- codes
 
-fn is_printable(b: u8) -> bool
-    ensures { result ≡ between 33 126 b }
-{
-    if b < 33 {
-        return false;
-    }
-    b <= 126
-}
-
-fn coded_with(end: usize, code: u32) -> Coded
-    ensures { result ≡ coded_with end code }
-{
-    Coded { end, code }
-}
-
 // A code that four bytes spell is above 2^24, and takes no other.
 #[inline(never)]
-fn long_code(text: &[u8], from: usize) -> Coded
-    ensures { CodeThere text.now from result }
+fn long_code(text: &[u8], from: usize) -> Option<Coded>
+    ensures { IfSome result (λ c. CodeThere text.now from c) }
 {
+    if is_end(text, from) {
+        return None;
+    }
     let mut code = 0u32;
-    let mut i = from;
-    while i < text.len() {
-        let b = text[i];
-        if !is_printable(b) {
-            break;
+    for end in from..text.len() {
+        let b = text[end];
+        if !b.is_ascii_graphic() {
+            return scanning::is_separator(b).then_some(Coded { end, code });
         }
-        if 16777216 <= code {
-            return coded_with(i, 0);
-        }
-        code = code * 256 + b as u32;
-        i += 1;
+        code = code.checked_mul(256)? + u32::from(b);
     }
-    if is_end(text, i) {
-        return coded_with(i, code);
-    }
-    coded_with(i, 0)
+    Some(Coded {
+        end: text.len(),
+        code,
+    })
 }
 
 // Most codes have one byte.
-pub fn code_at(text: &[u8], from: usize) -> Coded
-    ensures { CodeThere text.now from result }
+pub fn code_at(text: &[u8], from: usize) -> Option<Coded>
+    ensures { IfSome result (λ c. CodeThere text.now from c) }
 {
-    if text.len() <= from {
-        return coded_with(from, 0);
-    }
-    let b = text[from];
-    if !is_printable(b) {
-        return coded_with(from, 0);
+    if from >= text.len() || !text[from].is_ascii_graphic() {
+        return None;
     }
     if is_end(text, from + 1) {
-        return coded_with(from + 1, b as u32);
+        return Some(Coded {
+            end: from + 1,
+            code: u32::from(text[from]),
+        });
     }
     long_code(text, from)
 }
 
 // ---- times
 
-// A tenth of 2^64 - 1.
-const TENTH: u64 = 1844674407370955161;
-
-pub fn timed_with(whole: bool, end: usize, time: u64) -> Timed
-    ensures { result ≡ timed_with whole end time }
+// The decimal number at an offset, if it is a time.
+pub fn time_at(text: &[u8], from: usize) -> Option<Timed>
+    ensures { IfSome result (λ a. TimeThere text.now from a) }
 {
-    Timed { whole, end, time }
-}
-
-// A time below TENTH takes any digit more, and fits.
-pub fn time_at(text: &[u8], from: usize) -> Timed
-    ensures { TimeThere text.now from result }
-{
+    if is_end(text, from) {
+        return None;
+    }
     let mut time = 0u64;
-    let mut i = from;
-    while i < text.len() {
-        let b = text[i];
-        if !scanning::is_digit(b) {
-            break;
+    for end in from..text.len() {
+        let b = text[end];
+        if !b.is_ascii_digit() {
+            return scanning::is_separator(b).then_some(Timed { end, time });
         }
-        if TENTH <= time {
-            return timed_with(false, i, 0);
-        }
-        time = time * 10 + (b - 48) as u64;
-        i += 1;
+        time = time.checked_mul(10)?.checked_add(u64::from(b - b'0'))?;
     }
-    if i <= from {
-        return timed_with(false, i, 0);
-    }
-    timed_with(is_end(text, i), i, time)
+    Some(Timed {
+        end: text.len(),
+        time,
+    })
 }

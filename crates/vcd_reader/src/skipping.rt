@@ -1,68 +1,55 @@
 // Words that are skipped up to the next $end, and the words that begin or end a block.
-ghost use Rattle.std.specs.Prelude.{◌≡◌};
-ghost use Rattle.vcd_reader.specs.Skipping.{ToEnd, PassedBy, Passes, turned_with, Turns};
+ghost use Rattle.std.specs.Prelude.{◌≡◌, IfSome, MatchResult};
+ghost use Rattle.vcd_reader.specs.Skipping.{ToEnd, NoEnd, PassedBy, Passes, Turns};
 ghost use Rattle.recording.specs.declared.Place.TheVariants.{Definition, Body};
 
-use crate::{Ended, Turned, keywords, runs};
+use crate::{Turned, keywords, runs};
 
-// The end of the first $end from an offset on, or of the text.
-pub fn to_end(text: &[u8], from: usize) -> Ended
-    ensures { ToEnd text.now from result }
+// The end of the first $end from an offset on, or else of the text.
+pub fn to_end(text: &[u8], from: usize) -> Result<usize, usize>
+    ensures { MatchResult result (λ end. ToEnd text.now from end) (λ end. NoEnd text.now from end) }
 {
     let mut i = runs::skip(text, from);
+    // a `while`: i goes from word to word
     while i < text.len() {
-        let e = keywords::end_at(text, i);
-        if e.found {
-            return e;
+        if let Some(end) = keywords::spelled(text, i, b"$end") {
+            return Ok(end);
         }
         i = runs::skip(text, runs::past(text, i));
     }
-    keywords::ended_with(false, i)
+    Err(i)
 }
 
-// A comment up to its $end.
+// The end of a comment, which is that of its $end.
 #[inline(never)]
-fn comment(text: &[u8], at: usize) -> Ended
-    ensures { PassedBy Body text.now at result }
+fn comment(text: &[u8], at: usize) -> Option<usize>
+    ensures { IfSome result (λ end. PassedBy Body text.now at end) }
 {
-    let first = keywords::comment_at(text, at);
-    if first.found {
-        return to_end(text, first.end);
-    }
-    first
-}
-
-fn turned_with(found: bool, end: usize, block: bool) -> Turned
-    ensures { result ≡ turned_with found end block }
-{
-    Turned { found, end, block }
+    let first = keywords::spelled(text, at, b"$comment")?;
+    to_end(text, first).ok()
 }
 
 // In a block its end; elsewhere a comment, or the first word of a block.
-pub fn turn(text: &[u8], at: usize, block: bool) -> Turned
-    ensures { Turns text.now at block result }
+pub fn turn(text: &[u8], at: usize, block: bool) -> Option<Turned>
+    ensures { IfSome result (λ k. Turns text.now at block k) }
 {
     if block {
-        let e = keywords::end_at(text, at);
-        return turned_with(e.found, e.end, false);
+        let end = keywords::spelled(text, at, b"$end")?;
+        return Some(Turned { end, block: false });
     }
-    let e = comment(text, at);
-    if e.found {
-        return turned_with(true, e.end, false);
+    if let Some(end) = comment(text, at) {
+        return Some(Turned { end, block: false });
     }
-    let d = keywords::dump_at(text, at);
-    turned_with(d.found, d.end, true)
+    let end = keywords::dump_at(text, at)?;
+    Some(Turned { end, block: true })
 }
 
-// A definition that is skipped, up to its $end.
-fn definition(text: &[u8], at: usize) -> Ended
-    ensures { PassedBy Definition text.now at result }
+// The end of a definition that is skipped, which is that of its $end.
+fn definition(text: &[u8], at: usize) -> Option<usize>
+    ensures { IfSome result (λ end. PassedBy Definition text.now at end) }
 {
-    let first = keywords::skipped_at(text, at);
-    if first.found {
-        return to_end(text, first.end);
-    }
-    first
+    let first = keywords::skipped_at(text, at)?;
+    to_end(text, first).ok()
 }
 
 // Definitions that are skipped, as far as they go.
@@ -70,12 +57,8 @@ pub fn definitions(text: &[u8], from: usize) -> usize
     ensures { Passes Definition text.now from result }
 {
     let mut i = runs::skip(text, from);
-    while i < text.len() {
-        let d = definition(text, i);
-        if !d.found {
-            break;
-        }
-        i = runs::skip(text, d.end);
+    while let Some(end) = definition(text, i) {
+        i = runs::skip(text, end);
     }
     i
 }

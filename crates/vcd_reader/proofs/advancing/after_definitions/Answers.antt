@@ -3,7 +3,7 @@ use Rattle.std.proofs.Common.{arith}
 use Rattle.vcd_reader.proofs.Follows.{advances_quiet}
 use Rattle.vcd_reader.proofs.advancing.after_definitions.Goals as goal
 
-pub returns-then-text-i : goal.returns-then-text-i
-returns-then-text-i c =
+pub returns-else-i-text : goal.returns-else-i-text
+returns-else-i-text c =
     let f = c.definitions-i.ensures c.args.r c.requires.0 c.requires.1 in
-    rw (c.advanced_with.ensures, c.no_strobe.ensures) (advances_quiet _ 0 f (λ h. omega (arith, c.if-text-i.true)))
+    advances_quiet _ c.no_command.ensures f (λ h. omega (arith, c.if-i-text.false))

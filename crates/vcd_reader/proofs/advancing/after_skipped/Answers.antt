@@ -3,14 +3,12 @@ use mathlib.Core.Path.{refl}
 use Rattle.vcd_reader.proofs.Follows.{advances_quiet}
 use Rattle.vcd_reader.proofs.advancing.after_skipped.Goals as goal
 
-pub returns-then-e : goal.returns-then-e
-returns-then-e c =
-    let e = c.to_end-e.ensures in
-    rw (c.advanced_with.ensures, c.no_strobe.ensures, c.at.ensures)
-    (advances_quiet _ 0 (e.ends c.if-e.true _ _ c.requires.1 c.args.r refl c.requires.0) e.moves)
+pub returns-in-Ok : goal.returns-in-Ok
+returns-in-Ok c =
+    let e = c.in-Ok.ensures in
+    advances_quiet _ c.no_command.ensures (e.ends _ _ c.requires.1 c.args.r refl c.requires.0) e.moves
 
-pub returns : goal.returns
-returns c =
-    let e = c.to_end-e.ensures in
-    rw (c.advanced_with-2.ensures, c.no_strobe-2.ensures)
-    (advances_quiet _ 0 (e.passes c.if-e.false _ _ c.requires.1 c.args.r refl c.requires.0) e.moves)
+pub returns-in-Err : goal.returns-in-Err
+returns-in-Err c =
+    let e = c.in-Err.ensures in
+    advances_quiet _ c.no_command-in-Err.ensures (e.passes _ _ c.requires.1 c.args.r refl c.requires.0) e.moves

@@ -7,10 +7,8 @@ use Rattle.vcd_reader.proofs.advancing.any_word.Goals as goal
 pub returns-then-is_separator : goal.returns-then-is_separator
 returns-then-is_separator c =
     let a = c.args in
-    rw (c.advanced_with.ensures, c.no_strobe.ensures)
-    (advances_quiet _ 0
-    (follows_separator _ a.i a.r c.requires (sym c.is_separator.ensures ∙ c.if-is_separator.true))
-    (λ h. omega arith))
+    advances_quiet _ c.no_command.ensures
+    (follows_separator _ a.i a.r c.requires (sym c.is_separator.ensures ∙ c.if-is_separator.true)) (λ h. omega arith)
 
 pub returns : goal.returns
 returns c =
@@ -19,6 +17,5 @@ returns c =
     let keeps = keeps_run _ c.args.i c.requires starts scanned.end c.scan-s.ensures.0 scanned.partial
     c.nothing.result c.scan-s.ensures.1 c.nothing.ensures
     (λ j. omega (arith, c.type_inv.text j)) in
-    rw c.advanced_with-2.ensures
-    (advances_word _ c.args.i c.requires starts scanned.end c.scan-s.ensures.0 c.args.r c.word-a.result
-    (c.word-a.ensures _ keeps))
+    advances_word _ c.args.i c.requires starts scanned.end c.scan-s.ensures.0 c.args.r c.word-a.result
+    (c.word-a.ensures _ keeps)

@@ -1,11 +1,11 @@
 -- `vcd_reader::advancing::takes` meets its contract. Assumes nothing.
 use mathlib.Core.Path.{sym, ◌∙◌}
-use borrow.Author.Tests.{not-false}
+use Rattle.std.proofs.Common.{arith}
 use Rattle.vcd_reader.proofs.Changing.{takes_all}
 use Rattle.vcd_reader.proofs.advancing.takes.Goals as goal
 
-pub returns : goal.returns
-returns c =
+pub returns-then-r-lt65535 : goal.returns-then-r-lt65535
+returns-then-r-lt65535 c =
     λ e.
-    takes_all _ _ (not-false _ c.if-not-r.false) (not-false _ c.if-not-r-2.false) c.if-r-ne1.false c.if-r.false c.if-time-r.false
-    c.if-r-ge65535.false (sym c.is_readable.ensures ∙ e)
+    takes_all _ _ (grind arith) (grind arith) (grind arith) (grind arith) (grind arith) (grind arith)
+    (sym c.is_readable.ensures ∙ e)

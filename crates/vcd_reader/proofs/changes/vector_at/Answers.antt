@@ -1,11 +1,9 @@
 -- `vcd_reader::changes::vector_at` meets its contract. Assumes nothing.
-use borrow.Author.Tests.{not-false}
+use Rattle.std.proofs.Common.{arith}
 use Rattle.vcd_reader.proofs.Changing.{coded_vector}
 use Rattle.vcd_reader.proofs.changes.vector_at.Goals as goal
 
 pub returns : goal.returns
 returns c =
-    coded_vector _ _ c.bits-bits.result c.skip.result c.code_at-c.result c.bits_vector-v.result
-    c.skip-2.result _ c.bits-bits.ensures (not-false _ c.if-not-bits.false) c.if-end-from.false
-    c.if-end-from-gt255.false c.skip.ensures c.code_at-c.ensures c.bits_vector-v.ensures c.skip-2.ensures
-    c.given_with-2.ensures
+    coded_vector _ _ c.in_ok-bits.bits c.skip.result c.in_ok-c.c c.bits_vector.result _ c.in_ok-bits.ensures
+    (omega (arith, c.if-length-from.false, c.from.ensures)) c.skip.ensures c.in_ok-c.ensures c.bits_vector.ensures c.skip-2.ensures

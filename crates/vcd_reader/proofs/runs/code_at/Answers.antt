@@ -5,5 +5,5 @@ use Rattle.vcd_reader.proofs.runs.code_at.Goals as goal
 
 pub returns-then-is_end : goal.returns-then-is_end
 returns-then-is_end c =
-    one_code _ _ _ c.coded_with-then-is_end.ensures c.if-text-from.false (sym c.is_printable.ensures ∙ c.if-not-is_printable.false)
-    (over _ c.is_end.ensures c.if-is_end.true)
+    one_code _ _ _ c.from.ensures c.if-from-text.false
+    (sym c.is_ascii_graphic.ensures.value ∙ c.if-not-is_ascii_graphic.false) (over _ c.is_end.ensures c.if-is_end.true)

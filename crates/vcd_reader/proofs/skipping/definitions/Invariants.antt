@@ -6,8 +6,8 @@ use Rattle.recording.specs.declared.Place.TheVariants.{Definition}
 use Rattle.vcd_reader.specs.Skipping.{Passes}
 use Rattle.vcd_reader.proofs.skipping.definitions.Given as goal
 
-abbrev pub invariant-loop-i : goal.invariant-loop-i
-invariant-loop-i l = Passes Definition l.text l.from l.i
+abbrev pub invariant-loop-end : goal.invariant-loop-end
+invariant-loop-end l = Passes Definition l.text l.from l.i
 
-abbrev pub decreases-loop-i : goal.decreases-loop-i
-decreases-loop-i l = length l.text - l.i
+abbrev pub decreases-loop-end : goal.decreases-loop-end
+decreases-loop-end l = length l.text - l.i
