@@ -1,5 +1,6 @@
 // Making a controller, and one call for all eight commands, on any state whatever. The public face of the model.
-// Each contract is one equation with its definition: it fixes state, number, id and cycles on every input.
+// Each contract is one equation with its definition: it fixes state, number, id and cycles on every input. An answer holds a number in
+// place of a `Refusal`, since the statements over any behaviour (model/specs/Statements.antt) speak of numbers.
 #![tactic(auto)]
 
 ghost use Rattle.std.specs.Prelude.{◌≡◌};
