@@ -1,6 +1,6 @@
 -- Keys decide as the records that they are read off. Assumes nothing.
 --   tree_cong               the tree looks only at indices of its range: orders that agree there have one winner
---   highest_by_keys         keys that are the sources' ranks: their highest is the highest source
+--   RanksOf, highest_by_keys    keys that are the sources' ranks: their highest is the highest source
 use Prim.Native.Nat.{ℕ, zero, suc, ◌+◌, ◌/◌, ◌<◌, ◌≤◌}
 use mathlib.Core.Path.{◌≡◌, refl, ap₂, ◌∙◌}
 use mathlib.Core.List.{List}
@@ -8,9 +8,11 @@ use mathlib.Core.Bool.{Bool, true, false, cond}
 use native.Mathlib.Omega.{arith}
 use lib.Dec.{ltb}
 use Rattle.model.specs.declared.Source.{Source}
+use Rattle.lists.specs.Rows.{FilledBy}
 use Rattle.lists.specs.Walks.{winner, left_half, tree}
-use Rattle.model.specs.Arbitration.{higher, highest}
-use Rattle.arbitration.specs.Keys.{key_above, HighestKey, RanksOf}
+use Rattle.model.specs.Records.{no_source}
+use Rattle.model.specs.Arbitration.{rank, higher, highest}
+use Rattle.arbitration.specs.Keys.{key_above, HighestKey}
 
 -- ---- orders that agree inside the range
 
@@ -58,6 +60,10 @@ tree_cong above above' (suc d) lo (suc (suc k)) agree =
     (agree (y above) (x above) (omega arith) (omega arith))
 
 -- ---- keys read off the records
+
+-- ks holds the rank of each of the first n sources
+abbrev pub RanksOf : List Source → ℕ → List ℕ → Type 0
+RanksOf l n ks = FilledBy (λ i x. rank x) no_source l n ks
 
 pub highest_by_keys : (l : List Source) (n : ℕ) (ks : List ℕ) → RanksOf l n ks → (r : ℕ) → HighestKey ks 0 n r → r ≡ highest l n
 unfolding highest

@@ -1,6 +1,7 @@
 -- What is proved here, for the crates above.
 pub mod Tree
 pub mod LeastCore
+pub mod Outermost
 pub mod Told
 pub mod Depth
 pub mod Ranges

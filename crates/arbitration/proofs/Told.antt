@@ -1,14 +1,12 @@
 -- The first of the least cores and of the highest candidates, by numbers that hold key and place. Assumes nothing.
---   SoFar, so_far_none, -taken, -left, -all    a walk for the least or the greatest: no number yet, one more that is taken or left, the end
 --   least_told                      the least number of the cores tells the least core and its current priority
 --   Told, highest_told              the greatest number of the sources tells whether the highest candidate interrupts a core, and which
 --                                   it is
 use Prim.Native.Nat.{ℕ, ◌+◌, ◌*◌, ◌-◌, ◌%◌, ◌<◌, ◌≤◌}
-use mathlib.Core.Path.{◌≡◌, refl, sym, subst, ◌∙◌}
+use mathlib.Core.Path.{◌≡◌, sym, subst, ◌∙◌}
 use mathlib.Core.List.{List}
 use mathlib.Core.Bool.{true, false}
 use native.Mathlib.Omega.{arith}
-use borrow.Author.Count.{below_more}
 use borrow.Author.Tests.{lt-ltb, le-ltb}
 use lib.ListN.{get_or}
 use Rattle.lists.specs.Rows.{FilledBy}
@@ -21,48 +19,10 @@ use Rattle.model.specs.Requests.{current_priority, candidate}
 use Rattle.model.specs.Arbitration.{rank, higher, highest, core_key, lower, least}
 use Rattle.model.specs.Settling.{interrupted_by}
 use Rattle.model.proofs.Candidates.{rank_candidate, rank_none}
-use Rattle.arbitration.specs.Places.{rank_step, key_at, rank_at, core_of, current_of, source_of, priority_of, Outermost, LowestOf}
+use Rattle.arbitration.specs.Places.{rank_step, key_at, rank_at, core_of, current_of, source_of, priority_of, LowestOf}
 use Rattle.arbitration.specs.Places.{GreatestOf}
 use Rattle.arbitration.proofs.Tree.{highest_first, highest_below}
 use Rattle.arbitration.proofs.LeastCore.{least_first}
-
--- ---- a walk for the outermost
-
--- x is the outermost of the first k numbers, of n; before the first turn, of one.
-pub record SoFar (R : ℕ → ℕ → Type 0) (ks : List ℕ) (n k x : ℕ) : Type 0 where
-  pub at : ℕ
-  pub inside : at < n
-  pub there : get_or ks at 0 ≡ x
-  pub related : (i : ℕ) → i < k → R x (get_or ks i 0)
-  pub within : k ≤ n
-
-module _ (R : ℕ → ℕ → Type 0) (ks : List ℕ) (n : ℕ) where
-  pub so_far_none : 0 < n → SoFar R ks n 0 (get_or ks 0 0)
-  so_far_none h = record { at = 0; inside = h; there = refl; related = λ i g. absurd (omega arith); within = omega arith }
-
-  module _ {k x : ℕ} (p : SoFar R ks n k x) (h : k < n) where
-    pub so_far_taken : R (get_or ks k 0) (get_or ks k 0) → ((z : ℕ) → R x z → R (get_or ks k 0) z) → SoFar R ks n (k + 1) (get_or ks k 0)
-    so_far_taken r through =
-        record {
-          at = k;
-          inside = h;
-          there = refl;
-          related = below_more (λ (i : ℕ). R (get_or ks k 0) (get_or ks i 0)) k (λ i g. through _ (p.related i g)) r;
-          within = omega arith;
-        }
-
-    pub so_far_left : R x (get_or ks k 0) → SoFar R ks n (k + 1) x
-    so_far_left r =
-        record {
-          at = p.at;
-          inside = p.inside;
-          there = p.there;
-          related = below_more (λ (i : ℕ). R x (get_or ks i 0)) k p.related r;
-          within = omega arith;
-        }
-
-  pub so_far_all : {k x : ℕ} → SoFar R ks n k x → n ≤ k → Outermost R ks n x
-  so_far_all p h = record { at = p.at; inside = p.inside; there = p.there; related = λ i g. p.related i (omega arith) }
 
 -- ---- the least core
 

@@ -1,27 +1,25 @@
 // Marks over a row of keys: at each index the number of candidates before it, so that a range holds a candidate exactly if the marks
 // of its two ends differ. Made once a call.
-ghost use Rattle.std.specs.Prelude.{◌≤◌, ◌≡◌, length};
+ghost use Rattle.std.specs.Prelude.{◌<◌, ◌≤◌, length};
 ghost use Rattle.model.specs.Records.{max_sources};
-ghost use Rattle.arbitration.specs.Marks.{marks_length, MarksOf};
+ghost use Rattle.arbitration.specs.Marks.{MarksOf};
 
 use model::SOURCES;
 
-// One mark before each key, and one behind the last.
+// The marks of a whole row of sources: one before each key, and one behind the last.
 pub const MARKS: usize = SOURCES + 1;
 
-// The marks of the first n keys; rank 0 is no candidate.
-pub fn marks_of(keys: &[u32; SOURCES], n: usize, marks: &mut [u16; MARKS])
-    requires { (n ≤ max_sources) × (length marks.old ≡ marks_length) }
-    ensures { MarksOf keys.now n marks.new }
+// The marks of a row of keys; rank 0 is no candidate.
+pub fn marks_of(keys: &[u32], marks: &mut [u16])
+    requires { (length keys.now ≤ max_sources) × (length keys.now < length marks.old) }
+    ensures { MarksOf keys.now (length keys.now) marks.new }
 {
-    let mut before = 0u16;
+    let mut before = 0;
     marks[0] = before;
-    let mut i = 0;
-    while i < n {
-        if keys[i] > 0 {
+    for (i, &key) in keys.iter().enumerate() {
+        if key > 0 {
             before += 1;
         }
-        i += 1;
-        marks[i] = before;
+        marks[i + 1] = before;
     }
 }

@@ -17,10 +17,12 @@ pub fn key_at(c: Core, k: usize) -> u32
     requires { k < max_cores }
     ensures { result ≡ key_at k c }
 {
-    if !c.message.filled {
-        return KEY_STEP * c.configured as u32 + CORES as u32 + k as u32;
+    let b = c.message;
+    if b.filled {
+        KEY_STEP * b.priority as u32 + k as u32
+    } else {
+        KEY_STEP * c.configured as u32 + CORES as u32 + k as u32
     }
-    KEY_STEP * c.message.priority as u32 + k as u32
 }
 
 // The number of source i + 1, whose record is r; 0 for no candidate.
@@ -29,9 +31,10 @@ pub fn rank_at(r: Source, i: usize) -> u32
     ensures { result ≡ rank_at i r }
 {
     if records::is_candidate(r) {
-        return RANK_STEP * r.priority as u32 + (SOURCES - i) as u32;
+        RANK_STEP * r.priority as u32 + (SOURCES - i) as u32
+    } else {
+        0
     }
-    0
 }
 
 // The core that a number stands for, and its current priority.
@@ -66,15 +69,8 @@ pub fn lowest(keys: &[u32; CORES], m: usize) -> u32
     requires { (0 < m) × (m ≤ max_cores) }
     ensures { LowestOf keys.now m result }
 {
-    let mut least = keys[0];
-    let mut k = 0;
-    while k < m {
-        if keys[k] < least {
-            least = keys[k];
-        }
-        k += 1;
-    }
-    least
+    let row = &keys[..m];
+    row.iter().fold(row[0], |least, &key| least.min(key))
 }
 
 // The greatest of the first n numbers, in the same way.
@@ -82,13 +78,6 @@ pub fn greatest(ranks: &[u32; SOURCES], n: usize) -> u32
     requires { (0 < n) × (n ≤ max_sources) }
     ensures { GreatestOf ranks.now n result }
 {
-    let mut top = ranks[0];
-    let mut i = 0;
-    while i < n {
-        if top < ranks[i] {
-            top = ranks[i];
-        }
-        i += 1;
-    }
-    top
+    let row = &ranks[..n];
+    row.iter().fold(row[0], |top, &rank| top.max(rank))
 }

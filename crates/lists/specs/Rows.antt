@@ -4,7 +4,6 @@
 --   filter f l             the values of l that pass f, in their order
 --   write f at v           the function f with the value at one place replaced
 --   FilledBy f d l n ks    the first n numbers of ks are what f says of the first n elements of l, each with its index
---   FilledTo f d l n ks    the same where the index says nothing
 use Rattle.std.specs.Prelude.{ℕ, zero, suc, ◌<◌, ◌≡◌, List, [], ◌∷◌, ◌++◌, Bool, cond, eqb, get_or}
 
 -- The lists f 0, f 1, .., f (n - 1), joined.
@@ -37,6 +36,3 @@ write f at v x = cond (eqb x at) v (f x)
 -- Past its end the list reads as d, and ks as 0.
 abbrev pub FilledBy : {A : Type 0} → (ℕ → A → ℕ) → A → List A → ℕ → List ℕ → Type 0
 FilledBy f d l n ks = (i : ℕ) → i < n → get_or ks i 0 ≡ f i (get_or l i d)
-
-abbrev pub FilledTo : {A : Type 0} → (A → ℕ) → A → List A → ℕ → List ℕ → Type 0
-FilledTo f d l n ks = FilledBy (λ i x. f x) d l n ks

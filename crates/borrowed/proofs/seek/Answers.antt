@@ -1,25 +1,14 @@
--- What the length says is how much is read, and a turn puts in the next record's rank.
-use Rattle.std.proofs.Common.{ap, arith, ◌≡◌, length}
-use Rattle.model.specs.Records.{max_sources, no_source}
-use Rattle.model.specs.Arbitration.{rank}
-use Rattle.lists.proofs.Filling.{filling_none, filling_more}
-use Rattle.borrowed.specs.declared.Extent.{Extent}
-use Rattle.borrowed.specs.Keys.{read_of}
-use Rattle.borrowed.proofs.Filling.{read_inside}
+-- A list that fits is searched by the ranks of its records. Assumes nothing.
+use Rattle.std.proofs.Common.{◌∙◌, length, arith}
+use Rattle.std.proofs.lemmas.List.{get_or-take, length-take}
+use Rattle.borrowed.proofs.Searches.{sought_too_long, sought_by_keys}
 use Rattle.borrowed.proofs.seek.Goals as goal
 
-pub loop-i-init : goal.loop-i-init
-loop-i-init c =
-    let list = c.args.list.now in
-    let inside = read_inside (length list) in
-    let e : c.extent_of-e.result.read ≡ read_of (length list) = ap (λ (x : Extent). x.read) c.extent_of-e.ensures in
-    (filling_none (λ i. rank) no_source list max_sources, omega arith, omega arith, omega arith)
+pub returns-then-list-gt-SOURCES : goal.returns-then-list-gt-SOURCES
+returns-then-list-gt-SOURCES c = sought_too_long c.args.list.now (omega arith)
 
-pub loop-i-preserved : goal.loop-i-preserved
-loop-i-preserved c =
-    let (filling, in_read, in_list, in_row) = c.loop-i.invariant in (
-      filling_more (λ i. rank) no_source c.args.list.now filling (omega arith) c.rank.result c.rank.ensures,
-      omega arith,
-      in_list,
-      in_row,
-    )
+pub returns : goal.returns
+returns c =
+    let n = length c.args.list.now in
+    sought_by_keys c.args.list.now _ c.find.result (omega arith) (omega (arith, length-take n c.loop-i.keys))
+    (λ j h. get_or-take n c.loop-i.keys j 0 h ∙ c.loop-i.invariant.filled j (omega arith)) c.find.ensures

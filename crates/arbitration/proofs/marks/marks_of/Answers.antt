@@ -1,17 +1,17 @@
--- `arbitration::marks::marks_of` meets its contract. The loop's invariant: so many of the first i keys are candidates', and the marks up
--- to i are made. The measure is what is left of the row. Assumes nothing.
-use Rattle.std.proofs.Common.{arith}
+-- `arbitration::marks::marks_of` meets its contract: a key is a candidate's exactly if it is above 0. Assumes nothing.
+use Rattle.std.proofs.Common.{ℕ, ◌+◌, ◌<◌, length, length-set, arith}
 use Rattle.arbitration.proofs.Marking.{marking_none, marking_fits, marking_on, marking_off}
 use Rattle.arbitration.proofs.marks.marks_of.Goals as goal
-use Rattle.arbitration.proofs.marks.marks_of.Goals.{else-keys-i-gt0, then-keys-i-gt0}
+use Rattle.arbitration.proofs.marks.marks_of.Goals.{else-key-gt0, then-key-gt0}
 
 pub loop-i-init : goal.loop-i-init
-loop-i-init c = marking_none c.args.keys.now c.args.marks.now c.requires.1
+loop-i-init c = marking_none c.args.keys.now c.args.marks.now (omega arith)
 
 pub overflow_add-before : goal.overflow_add-before
-overflow_add-before c = omega (arith, marking_fits c.loop-i.invariant (omega arith))
+overflow_add-before c = omega (arith, length-set {A = ℕ}, marking_fits c.loop-i.invariant (omega (arith, length-set {A = ℕ})))
 
 pub loop-i-preserved : goal.loop-i-preserved
 loop-i-preserved c =
     let inv = c.loop-i.invariant in
-    elim c.if-keys-i-gt0.branch [ then-keys-i-gt0 w ↦ rw w.before-is (marking_on inv (omega arith) (omega (arith, w.if-keys-i-gt0.true))) | else-keys-i-gt0 w ↦ rw w.before-is (marking_off inv (omega arith) (omega (arith, w.if-keys-i-gt0.false))) ]
+    let room : c.loop-i.i + 1 < length c.loop-i.marks = omega (arith, length-set {A = ℕ}) in
+    elim c.if-key-gt0.branch [ then-key-gt0 w ↦ rw w.before-is (marking_on inv room (omega arith)) | else-key-gt0 w ↦ rw w.before-is (marking_off inv room (omega arith)) ]
