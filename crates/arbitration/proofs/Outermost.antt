@@ -1,6 +1,7 @@
 -- A fold that keeps the outer of two numbers tells the outermost of a row. Assumes nothing.
 --   Picks, folded                      such a fold over a list, for any relation and any choice that goes by it
---   lowest_folded, greatest_folded     the fold over the first numbers of a row, which begins with its first, by `min` and by `max`
+--   lowest_folded, greatest_folded     the fold that begins with a row's first number, by `min` and by `max`
+--   of_first                           the first numbers of a row, as a row of their own
 use Prim.Native.Nat.{ℕ, zero, suc, ◌+◌, ◌<◌, ◌≤◌, min, max}
 use mathlib.Core.Path.{◌≡◌, refl, sym, ◌∙◌}
 use mathlib.Core.Logic.{◌⊎◌, inl, inr}
@@ -61,18 +62,6 @@ module _ (R : ℕ → ℕ → Type 0) (pick : ℕ → ℕ → ℕ) (p : Picks R 
           case (start q) = record { at = 0; inside = h; there = sym q; related = f.each }
           case (inside at g q) = record { at = at; inside = g; there = q; related = f.each }
 
-  -- over the first n numbers of a row
-  part_folded :
-      {ks : List ℕ} {n x : ℕ} → 0 < n → n ≤ length ks → x ≡ fold pick (get_or (take n ks) 0 0) (take n ks) → Outermost R ks n x
-  part_folded {ks} {n} {x} h g e =
-      let o : Outermost R (take n ks) (length (take n ks)) x = row_folded (omega (arith, length-take n ks)) e in
-      record {
-        at = o.at;
-        inside = omega (arith, o.inside, length-take n ks);
-        there = sym (get_or-take n ks o.at 0 (omega (arith, o.inside, length-take n ks))) ∙ o.there;
-        related = λ i u. rw (get_or-take n ks i 0 u) at (o.related i (omega (arith, length-take n ks)));
-      }
-
 one_of_min : (x y : ℕ) → (min x y ≡ x) ⊎ (min x y ≡ y)
 one_of_min x y = go (dec_le x y)
   where
@@ -107,10 +96,21 @@ max_picks =
       through = λ x y z h g. omega arith;
     }
 
-pub lowest_folded :
-    {ks : List ℕ} {m x : ℕ} → 0 < m → m ≤ length ks → x ≡ fold min (get_or (take m ks) 0 0) (take m ks) → LowestOf ks m x
-lowest_folded = part_folded AtMost min min_picks
+pub lowest_folded : {ks : List ℕ} {x : ℕ} → 0 < length ks → x ≡ fold min (get_or ks 0 0) ks → LowestOf ks (length ks) x
+lowest_folded = row_folded AtMost min min_picks
 
-pub greatest_folded :
-    {ks : List ℕ} {n x : ℕ} → 0 < n → n ≤ length ks → x ≡ fold max (get_or (take n ks) 0 0) (take n ks) → GreatestOf ks n x
-greatest_folded = part_folded AtLeast max max_picks
+pub greatest_folded : {ks : List ℕ} {x : ℕ} → 0 < length ks → x ≡ fold max (get_or ks 0 0) ks → GreatestOf ks (length ks) x
+greatest_folded = row_folded AtLeast max max_picks
+
+-- of the first n numbers, n as many as m
+pub of_first :
+    {R : ℕ → ℕ → Type 0} {ks : List ℕ} {n m x : ℕ} → n ≡ m → n ≤ length ks → Outermost R (take n ks) (length (take n ks)) x →
+    Outermost R ks m x
+of_first {R} {ks} {n} {m} {x} e h o =
+    let long : length (take n ks) ≡ m = omega (arith, length-take n ks) in
+    record {
+      at = o.at;
+      inside = omega (arith, o.inside);
+      there = sym (get_or-take n ks o.at 0 (omega (arith, o.inside))) ∙ o.there;
+      related = λ i g. rw (get_or-take n ks i 0 (omega arith)) at (o.related i (omega arith));
+    }

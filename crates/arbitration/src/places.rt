@@ -1,6 +1,7 @@
 // A core's key, or a source's rank, with its place in one number: the first of the least cores is one minimum, the first of the highest
-// candidates one maximum, which the compiler takes several numbers at a time.
-ghost use Rattle.std.specs.Prelude.{◌%◌, ◌<◌, ◌≤◌, ◌≡◌};
+// candidates one maximum, which the compiler takes several numbers at a time. They stay plain numbers, since `FilledBy`, `LowestOf` and
+// `GreatestOf` speak of rows of numbers.
+ghost use Rattle.std.specs.Prelude.{◌%◌, ◌<◌, ◌≤◌, ◌≡◌, length};
 ghost use Rattle.model.specs.Records.{max_sources, max_cores};
 ghost use Rattle.arbitration.specs.Places.{rank_step, key_at, rank_at, core_of, current_of, source_of, priority_of, LowestOf, GreatestOf};
 
@@ -64,20 +65,18 @@ pub fn priority_of(rank: u32) -> u32
     rank / RANK_STEP
 }
 
-// The least of the first m numbers. The first is looked at twice, so that as many are left as the compiler takes at a time.
-pub fn lowest(keys: &[u32; CORES], m: usize) -> u32
-    requires { (0 < m) × (m ≤ max_cores) }
-    ensures { LowestOf keys.now m result }
+// The least of a row. The first is looked at twice, so that as many are left as the compiler takes at a time.
+pub fn lowest(keys: &[u32]) -> u32
+    requires { 0 < length keys.now }
+    ensures { LowestOf keys.now (length keys.now) result }
 {
-    let row = &keys[..m];
-    row.iter().fold(row[0], |least, &key| least.min(key))
+    keys.iter().fold(keys[0], |least, &key| least.min(key))
 }
 
-// The greatest of the first n numbers, in the same way.
-pub fn greatest(ranks: &[u32; SOURCES], n: usize) -> u32
-    requires { (0 < n) × (n ≤ max_sources) }
-    ensures { GreatestOf ranks.now n result }
+// The greatest of a row, in the same way.
+pub fn greatest(ranks: &[u32]) -> u32
+    requires { 0 < length ranks.now }
+    ensures { GreatestOf ranks.now (length ranks.now) result }
 {
-    let row = &ranks[..n];
-    row.iter().fold(row[0], |top, &rank| top.max(rank))
+    ranks.iter().fold(ranks[0], |top, &rank| top.max(rank))
 }

@@ -11,7 +11,8 @@ pub struct Looked {
 }
 
 // The first highest of the len keys from lo, of which one is a candidate's, and the ranges of their tree that hold a candidate. The
-// range is halved until one key is left, a half without a candidate is skipped, and the left side keeps a tie.
+// range is halved until one key is left, a half without a candidate is skipped, and the left side keeps a tie. A range is a start and a
+// length, and not two slices: the marks, one more than the keys, are read at the same indices.
 fn look(keys: &[u32], marks: &[u16], lo: usize, len: usize) -> Looked
     requires { Lookable keys.now marks.now lo len }
     ensures { LookedInto keys.now lo len result }

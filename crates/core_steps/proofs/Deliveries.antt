@@ -7,6 +7,7 @@ use Prim.Native.Nat.{ℕ, suc, ◌+◌, ◌%◌, ◌<◌, ◌≤◌}
 use mathlib.Core.Path.{◌≡◌, refl, sym, ap₂, subst, ◌∙◌}
 use mathlib.Core.List.{List}
 use mathlib.Core.Bool.{true}
+use lib.ListN.{length, take}
 use native.Mathlib.Omega.{arith}
 use Rattle.model.specs.declared.Source.{Source}
 use Rattle.model.specs.declared.Core.{Core}
@@ -19,6 +20,7 @@ use Rattle.model.specs.Settling.{interrupted_by, arbitrate, deliver, next, settl
 use Rattle.arbitration.specs.Places.{rank_step, core_of, current_of, source_of, priority_of, LowestOf, GreatestOf}
 use Rattle.arbitration.proofs.Tree.{highest_below}
 use Rattle.arbitration.proofs.LeastCore.{least_below}
+use Rattle.arbitration.proofs.Outermost.{of_first}
 use Rattle.arbitration.proofs.Told.{Told, least_told, highest_told}
 use Rattle.settling.specs.Phases.{Delivering}
 use Rattle.settling.specs.Runs.{AfterDeliveries}
@@ -53,87 +55,94 @@ delivered_none {b} p =
 -- ---- one turn, by what the two searches answer
 
 module _ {s : Controller} {b : List ℕ} {g : Ranking} {t n m top key : ℕ} (d : DeliveredTo s b g t) (n_is : n ≡ s.n) (m_is : m ≡ s.m)
-    (greatest : GreatestOf g.ranks n top) (lowest : LowestOf g.keys m key) where
-  abbrev u : Controller
-  u = state_from b
+    (greatest : GreatestOf (take n g.ranks) (length (take n g.ranks)) top) (lowest : LowestOf (take m g.keys) (length (take m g.keys)) key)
+  where
+    abbrev u : Controller
+    u = state_from b
 
-  c : Consistent u
-  c = d.consistent
+    c : Consistent u
+    c = d.consistent
 
-  told : Told u.sources u.n top
-  told =
-      highest_told u.sources u.n g.ranks c.n_le d.held.numbered.ranked
-      (subst (λ (x : ℕ). GreatestOf g.ranks x top) (n_is ∙ sym (ran_n d.ran)) greatest)
+    told : Told u.sources u.n top
+    told =
+        highest_told u.sources u.n g.ranks c.n_le d.held.numbered.ranked
+        (of_first same (omega (arith, same, c.n_le, d.held.numbered.ranks_length)) greatest)
+      where
+        same : n ≡ u.n
+        same = n_is ∙ sym (ran_n d.ran)
 
-  low : (core_of key ≡ low_core u) × (current_of key ≡ current_priority (core_at u (low_core u)))
-  low =
-      least_told u.cores u.m g.keys c.m_le d.held.numbered.keyed
-      (subst (λ (x : ℕ). LowestOf g.keys x key) (m_is ∙ sym (ran_m d.ran)) lowest)
+    low : (core_of key ≡ low_core u) × (current_of key ≡ current_priority (core_at u (low_core u)))
+    low =
+        least_told u.cores u.m g.keys c.m_le d.held.numbered.keyed
+        (of_first same (omega (arith, same, c.m_le, d.held.numbered.keys_length)) lowest)
+      where
+        same : m ≡ u.m
+        same = m_is ∙ sym (ran_m d.ran)
 
-  next_is : next u ≡ arbitrate u (top_source u) (low_core u)
-  next_is = next_clean u d.delivering.clean
+    next_is : next u ≡ arbitrate u (top_source u) (low_core u)
+    next_is = next_clean u d.delivering.clean
 
-  pub turn_fits : top % rank_step ≤ max_sources
-  turn_fits = told.fits
+    pub turn_fits : top % rank_step ≤ max_sources
+    turn_fits = told.fits
 
-  module _ {p q : ℕ} (p_is : p ≡ priority_of top) (q_is : q ≡ current_of key) where
-    pub turn_rests : p ≤ q → next u ≡ Rest
-    unfolding arbitrate
-    turn_rests h = next_is ∙ rw (told.rests (core_at u (low_core u)) (omega (arith, low.1)))
-
-    module _ (above : q < p) {i k : ℕ} (i_is : i ≡ source_of top) (k_is : k ≡ core_of key) where
-      interrupts : interrupted_by (core_at u (low_core u)) (source_at u (top_source u)) ≡ true
-      interrupts = told.interrupts (core_at u (low_core u)) (omega (arith, low.1))
-
-      delivers : next u ≡ Deliver (source_id (suc (top_source u))) (core_id (low_core u))
+    module _ {p q : ℕ} (p_is : p ≡ priority_of top) (q_is : q ≡ current_of key) where
+      pub turn_rests : p ≤ q → next u ≡ Rest
       unfolding arbitrate
-      delivers = next_is ∙ rw interrupts
+      turn_rests h = next_is ∙ rw (told.rests (core_at u (low_core u)) (omega (arith, low.1)))
 
-      arbitrated : Arbitrated u (top_source u) (low_core u)
-      arbitrated = record { consistent = c; delivering = d.delivering; won = contest u c.some_source c.some_core interrupts }
+      module _ (above : q < p) {i k : ℕ} (i_is : i ≡ source_of top) (k_is : k ≡ core_of key) where
+        interrupts : interrupted_by (core_at u (low_core u)) (source_at u (top_source u)) ≡ true
+        interrupts = told.interrupts (core_at u (low_core u)) (omega (arith, low.1))
 
-      source_is : i ≡ top_source u
-      source_is = i_is ∙ told.which (omega arith)
+        delivers : next u ≡ Deliver (source_id (suc (top_source u))) (core_id (low_core u))
+        unfolding arbitrate
+        delivers = next_is ∙ rw interrupts
 
-      core_is : k ≡ low_core u
-      core_is = k_is ∙ low.0
+        arbitrated : Arbitrated u (top_source u) (low_core u)
+        arbitrated = record { consistent = c; delivering = d.delivering; won = contest u c.some_source c.some_core interrupts }
 
-      pub turn_source : i < max_sources
-      turn_source = omega (arith, source_is, highest_below u.sources u.n c.some_source, c.n_le)
+        source_is : i ≡ top_source u
+        source_is = i_is ∙ told.which (omega arith)
 
-      core_in_use : low_core u < u.m
-      core_in_use = least_below u.cores u.m c.some_core
+        core_is : k ≡ low_core u
+        core_is = k_is ∙ low.0
 
-      pub turn_core : k < max_cores
-      turn_core = omega (arith, core_is, core_in_use, c.m_le)
+        pub turn_source : i < max_sources
+        turn_source = omega (arith, source_is, highest_below u.sources u.n c.some_source, c.n_le)
 
-      -- e is the record that is read
-      module _ {e : Core} (read : e ≡ core_from b (core_place k)) where
-        there : e ≡ core_at u k
-        there = read ∙ read_core d.held k turn_core
+        core_in_use : low_core u < u.m
+        core_in_use = least_below u.cores u.m c.some_core
 
-        pub turn_names : NamesSource e.message
-        turn_names f =
-            let filled : (core_at u (low_core u)).message.filled ≡ true = rw (there, core_is) at f in
-            let h : Holding u (core_at u (low_core u)) = c.backed (low_core u) core_in_use filled in
-            let same : e.message.source.0 ≡ (core_at u (low_core u)).message.source.0 = rw (there, core_is) in
-            (omega (arith, h.some_id, same), omega (arith, h.id_le, same, c.n_le))
+        pub turn_core : k < max_cores
+        turn_core = omega (arith, core_is, core_in_use, c.m_le)
 
-        pub delivered_more :
-            {r : Source} → r ≡ source_from b (source_place i) → {b' : List ℕ} {g' : Ranking} → Delivers i r k e b g b' g' → t < m →
-            DeliveredTo s b' g' (t + 1)
-        delivered_more taken {b'} {g'} done more =
-            let after : Held (deliver u i k) b' g' = done u d.held (taken ∙ read_source d.held i turn_source) there in
-            let same : state_from b' ≡ deliver u (top_source u) (low_core u) = held_back after ∙ ap₂ (deliver u) source_is core_is in
-            record {
-              held = held_here after;
-              ran =
-                  subst (λ (v : Controller). Ran is_delivery s v (t + 1)) (sym same)
-                  (ran_more d.ran (Deliver (source_id (suc (top_source u))) (core_id (low_core u))) delivers refl);
-              consistent = subst Consistent (sym same) (deliver_consistent arbitrated);
-              delivering = subst Delivering (sym same) (deliver_delivering arbitrated);
-              within = omega arith;
-            }
+        -- e is the record that is read
+        module _ {e : Core} (read : e ≡ core_from b (core_place k)) where
+          there : e ≡ core_at u k
+          there = read ∙ read_core d.held k turn_core
+
+          pub turn_names : NamesSource e.message
+          turn_names f =
+              let filled : (core_at u (low_core u)).message.filled ≡ true = rw (there, core_is) at f in
+              let h : Holding u (core_at u (low_core u)) = c.backed (low_core u) core_in_use filled in
+              let same : e.message.source.0 ≡ (core_at u (low_core u)).message.source.0 = rw (there, core_is) in
+              (omega (arith, h.some_id, same), omega (arith, h.id_le, same, c.n_le))
+
+          pub delivered_more :
+              {r : Source} → r ≡ source_from b (source_place i) → {b' : List ℕ} {g' : Ranking} → Delivers i r k e b g b' g' → t < m →
+              DeliveredTo s b' g' (t + 1)
+          delivered_more taken {b'} {g'} done more =
+              let after : Held (deliver u i k) b' g' = done u d.held (taken ∙ read_source d.held i turn_source) there in
+              let same : state_from b' ≡ deliver u (top_source u) (low_core u) = held_back after ∙ ap₂ (deliver u) source_is core_is in
+              record {
+                held = held_here after;
+                ran =
+                    subst (λ (v : Controller). Ran is_delivery s v (t + 1)) (sym same)
+                    (ran_more d.ran (Deliver (source_id (suc (top_source u))) (core_id (low_core u))) delivers refl);
+                consistent = subst Consistent (sym same) (deliver_consistent arbitrated);
+                delivering = subst Delivering (sym same) (deliver_delivering arbitrated);
+                within = omega arith;
+              }
 
 -- ---- the end
 

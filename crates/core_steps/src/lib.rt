@@ -32,8 +32,8 @@ fn deliver_all(state: &mut [u8], ranking: &mut Ranking, n: usize, m: usize) -> u
     ensures { Delivered state.old result state.new ranking.new }
 {
     for t in 0..m {
-        let top = places::greatest(&ranking.ranks, n);
-        let key = places::lowest(&ranking.keys, m);
+        let top = places::greatest(&ranking.ranks[..n]);
+        let key = places::lowest(&ranking.keys[..m]);
         if places::priority_of(top) <= places::current_of(key) {
             return t as u16;
         }

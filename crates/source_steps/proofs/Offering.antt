@@ -8,7 +8,7 @@ use mathlib.Core.Path.{◌≡◌, sym, ap, ap₂, subst, ◌∙◌}
 use mathlib.Core.List.{List}
 use mathlib.Core.Bool.{true, false}
 use lib.Dec.{ltb}
-use lib.ListN.{get_or}
+use lib.ListN.{length, get_or, take}
 use borrow.Author.Tests.{lt-ltb, le-ltb}
 use native.Mathlib.Omega.{arith}
 use Rattle.lists.proofs.Bools.{Flag, on, off, flag}
@@ -23,6 +23,7 @@ use Rattle.model.specs.Settling.{interrupted_by}
 use Rattle.model.specs.Statements.{delivered_once}
 use Rattle.arbitration.specs.Places.{rank_at, core_of, current_of, priority_of, LowestOf}
 use Rattle.arbitration.proofs.LeastCore.{least_below}
+use Rattle.arbitration.proofs.Outermost.{of_first}
 use Rattle.arbitration.proofs.Told.{least_told}
 use Rattle.layout.specs.Bytes.{core_from, state_from}
 use Rattle.layout.proofs.InPlace.{core_read}
@@ -51,7 +52,7 @@ offer_none {b} {i = i} o e says =
     rw calm (record { says = says; held = o.held })
 
 module _ {b : List ℕ} {g : Ranking} {m i : ℕ} {r : Source} (o : Offered (state_from b) b g m i r) {key : ℕ}
-    (lowest : LowestOf g.keys m key) where
+    (lowest : LowestOf (take m g.keys) (length (take m g.keys)) key) where
   abbrev s : Controller
   s = state_from b
 
@@ -61,7 +62,7 @@ module _ {b : List ℕ} {g : Ranking} {m i : ℕ} {r : Source} (o : Offered (sta
   told : (core_of key ≡ low) × (current_of key ≡ current_priority (core_at s low))
   told =
       least_told s.cores s.m g.keys o.consistent.m_le o.held.numbered.keyed
-      (subst (λ (j : ℕ). LowestOf g.keys j key) o.cores_are lowest)
+      (of_first o.cores_are (omega (arith, o.cores_are, o.consistent.m_le, o.held.numbered.keys_length)) lowest)
 
   module _ {p q : ℕ} (ep : p ≡ priority_of (get_or g.ranks i 0)) (eq : q ≡ current_of key) where
     decided : interrupted_by (core_at s low) (source_at s i) ≡ ltb q p

@@ -25,7 +25,7 @@ fn offer(state: &mut [u8], ranking: &mut Ranking, m: usize, i: usize, r: Source)
     if rank == 0 {
         return Ok(Accepted::after(0));
     }
-    let key = places::lowest(&ranking.keys, m);
+    let key = places::lowest(&ranking.keys[..m]);
     if places::priority_of(rank) <= places::current_of(key) {
         return Ok(Accepted::after(0));
     }
