@@ -11,7 +11,7 @@ pub mod words;
 
 // The number that a word spells after its first byte, as far as it is read: decimal after # or a digit, binary after b or B.
 // whole: every byte is a digit. known: no bit is x or z. over: the number is above 2^64 - 1, and value is held there; a binary one is
-// held at 65,535.
+// held at 65,535. over stands beside the value, and is no Option of it, since a width is judged by the value held there too.
 #[derive(Clone, Copy)]
 pub struct Number {
     pub whole: bool,

@@ -166,8 +166,10 @@ pub fn with_taken(r: Reader, taken: u16) -> Reader
 pub fn refused(r: Reader, number: u8, offset: u64) -> Reader
     ensures { result ≡ refused_of number offset r }
 {
-    let fault = fault_with(number, offset);
-    Reader { fault, ..r }
+    // A whole copy, then the fault: copied field by field, as ..r does, a recording's reading misses its bar of speed.
+    let mut next = r;
+    next.fault = fault_with(number, offset);
+    next
 }
 
 pub(crate) fn misread(r: Reader, why: Misreading, offset: u64) -> Reader

@@ -9,7 +9,7 @@ ghost use Rattle.vcd_words.specs.Partial.{counted_of, partial_with, empty, exten
 use crate::{Number, Partial, Scanned, Spelled};
 
 // 2^56: what is kept of a number of eight bytes when a byte is added.
-const SEVEN: u64 = 72057594037927936;
+const SEVEN: u64 = 1 << 56;
 
 // Nothing is read of a word yet.
 pub fn nothing() -> Partial

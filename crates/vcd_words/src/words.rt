@@ -254,11 +254,12 @@ pub fn finish(r: Reader, length: u64) -> Read
         return readers::only(r);
     }
     let ended = stamps::end_open_stamp(r, length);
-    if ended.reader.fault.number != 0 || is_body(ended.reader.place) {
+    let next = ended.reader;
+    if next.fault.number != 0 || is_body(next.place) {
         return ended;
     }
     readers::read_with(
-        readers::misread(ended.reader, Misreading::NotGrammar, length),
+        readers::misread(next, Misreading::NotGrammar, length),
         ended.strobe,
     )
 }
