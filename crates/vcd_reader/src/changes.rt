@@ -25,15 +25,12 @@ fn vector_at(text: &[u8], from: usize) -> Option<Given>
     ensures { IfSome result (λ g. CodedVector text.now from g) }
 {
     let bits = runs::bits(text, from)?;
-    let length = bits.end - from;
-    if length > usize::from(u8::MAX) {
-        return None;
-    }
+    let length = u8::try_from(bits.end - from).ok()?;
     let c = runs::code_at(text, runs::skip(text, bits.end))?;
     Some(Given {
         end: runs::skip(text, c.end),
         code: c.code,
-        vector: bits_vector(length as u8, bits.known, bits.number),
+        vector: bits_vector(length, bits.known, bits.number),
     })
 }
 

@@ -10,6 +10,7 @@ mod skipping;
 use recording::{Reader, Strobe, Vector};
 
 // The bits that are a word from an offset on: whether they are all 0 or 1, where they end, and their number, held at 65,535.
+// No Option: the number stands beside an x or z too, as in vcd_words::Number, which the contract (`BitsThere`) compares it with.
 #[derive(Clone, Copy)]
 pub struct Bits {
     pub known: bool,

@@ -25,7 +25,7 @@ pub fn skip(text: &[u8], from: usize) -> usize
     from.max(text.len())
 }
 
-// The first separator, or the end of the text.
+// The first separator, or the end of the text. One loop with a test for a parameter would be no plainer than these two: five lines each.
 pub fn past(text: &[u8], from: usize) -> usize
     ensures { result ≡ from + length (word_from text.now from) }
 {
