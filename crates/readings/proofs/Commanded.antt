@@ -4,6 +4,7 @@
 --   Fit r            they are those of a reader
 --   read_word-fit     a word keeps it
 --   named_one        so that the number of a strobe names a command
+use Rattle.std.specs.Prelude.{Some}
 use Prim.Native.Nat.{ℕ, zero, suc, ◌*◌, ◌^◌, ◌<◌, ◌≤◌, min}
 use mathlib.Core.Path.{◌≡◌, refl, subst}
 use mathlib.Core.Option.{Option, none, some}
@@ -203,7 +204,7 @@ stamp_fit n r h = go (level r).known (rises r) (is_readable r) (leb max_commands
         Fit
         (cond (not k) (only (refused 13 n r)) (cond (not v) (only (with_up (is_high r) r))
         (cond (not d) (only (refused 13 n r))
-        (cond x (only (refused 19 n r)) (read_with (with_taken (suc r.taken) (with_up true r)) (strobe_of r)))))).reader
+        (cond x (only (refused 19 n r)) (read_with (with_taken (suc r.taken) (with_up true r)) (Some (strobe_of r))))))).reader
     go false v d x = h
     go true false d x = h
     go true true false x = h

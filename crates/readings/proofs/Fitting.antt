@@ -2,6 +2,7 @@
 --   Within                   `ReaderFits` by its parts, which a place or a flag doesn't change
 --   value_below, code_below  what bits and codes spell
 --   word_fits, finish_fits   a word, and the end
+use Rattle.std.specs.Prelude.{Some}
 use Prim.Native.Nat.{ℕ, suc, ◌+◌, ◌*◌, ◌^◌, ◌<◌, ◌≤◌, min}
 use mathlib.Core.Path.{◌≡◌, refl, sym, subst, ap, ◌∙◌}
 use mathlib.Core.Option.{Option, none, some}
@@ -229,7 +230,7 @@ module _ (n : ℕ) (l : n < 2 ^ 64) where
           In
           (cond (not k) (only (refused 13 n r)) (cond (not v) (only (with_up (is_high r) r))
           (cond (not d) (only (refused 13 n r))
-          (cond x (only (refused 19 n r)) (read_with (with_taken (suc r.taken) (with_up true r)) (strobe_of r)))))).reader
+          (cond x (only (refused 19 n r)) (read_with (with_taken (suc r.taken) (with_up true r)) (Some (strobe_of r))))))).reader
       go false v d x e = refused_in r h 13 n (omega arith) l
       go true false d x e = h
       go true true false x e = refused_in r h 13 n (omega arith) l

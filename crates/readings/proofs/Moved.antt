@@ -6,6 +6,7 @@
 --   words_moved, times_moved         many words: reader and commands, and the times
 -- Every reader that is moved itself reads moved words so (`any_word`, `any_finish`, `any_words`, `any_times`), and one without a fault is
 -- moved as it stands (`good_stays`).
+use Rattle.std.specs.Prelude.{Some}
 use Prim.Native.Nat.{ℕ, suc, ◌+◌, ◌≤◌, min}
 use mathlib.Core.Path.{◌≡◌, refl, sym, ap, ◌∙◌}
 use mathlib.Core.Option.{Option, none, some}
@@ -82,7 +83,7 @@ module _ (n : ℕ) where
   end_moved k r =
       chosen_five (moved_read n) (not (level r).known) (not (rises r)) (not (is_readable r)) (leb max_commands r.taken)
       (only (refused 13 k r)) (only (with_up (is_high r) r)) (only (refused 13 k r)) (only (refused 19 k r))
-      (read_with (with_taken (suc r.taken) (with_up true r)) (strobe_of r))
+      (read_with (with_taken (suc r.taken) (with_up true r)) (Some (strobe_of r)))
 
   open_end_moved : (k : ℕ) (r : Reader) → end_open_stamp (n + k) (moved n r) ≡ moved_read n (end_open_stamp k r)
   unfolding end_open_stamp

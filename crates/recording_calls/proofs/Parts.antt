@@ -1,22 +1,19 @@
 -- What is yet to be read of a text, a part at a time. Assumes nothing.
 --   advanced, ended      a part up to a command, and the end of the text (`Continues`)
---   none_given, some_given    the command of a strobe
 --   next_none, next_one  what is left where a part gives no command, and where it gives one
 --   whole_reading, whole_times    what is left before the first word is the whole reading
 use Prim.Native.Nat.{ℕ, ◌<◌, ◌≤◌}
 use mathlib.Core.Path.{◌≡◌, refl, sym, ap, ◌∙◌}
 use mathlib.Core.List.{List, [], ◌∷◌, ◌++◌, map, append-nil, append_assoc}
-use mathlib.Core.Bool.{Bool, true, false, not, cond}
+use mathlib.Core.Bool.{Bool, true, cond}
 use native.Mathlib.Omega.{arith}
 use lib.ListN.{length, drop_of_length-le}
 use lib.Dec.{ltb}
-use borrow.Author.Tests.{lt-ltb, le-ltb, not-true, not-false}
+use borrow.Author.Tests.{lt-ltb, le-ltb}
 use Rattle.model.specs.declared.Command.{Command}
 use Rattle.std.specs.Prelude.{Option, Some, None}
 use Rattle.layout.specs.Bytes.{one_command}
-use Rattle.layout.specs.Commands.{command_of}
 use Rattle.recording.specs.declared.Reader.{Reader}
-use Rattle.recording.specs.declared.Strobe.{Strobe}
 use Rattle.recording.specs.declared.Read.{Read}
 use Rattle.recording.specs.Words.{Word, cut}
 use Rattle.recording.specs.Records.{start}
@@ -27,15 +24,6 @@ use Rattle.vcd_reader.specs.Advances.{words_from, Advances}
 use Rattle.vcd_reader.specs.declared.Advanced.{Advanced}
 use Rattle.readings.proofs.Cutting.{read_words-commands}
 use Rattle.recording_calls.specs.Remaining.{Remaining, remaining_with, to_end, remaining, left, before, Continues}
-
-module _ (s : Strobe) where
-  pub none_given : not s.given ≡ true → one_command None ≡ commands_of s
-  unfolding commands_of
-  none_given e = rw (not-true s.given e)
-
-  pub some_given : (d : Option Command) → not s.given ≡ false → d ≡ command_of s.number s.target s.level → one_command d ≡ commands_of s
-  unfolding commands_of
-  some_given d e ed = rw (not-false s.given e, ed)
 
 module _ (t : List ℕ) (at : ℕ) (r : Reader) (a : Advanced) where
   -- ---- up to a command

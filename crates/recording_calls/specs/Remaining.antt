@@ -2,7 +2,7 @@
 --   remaining t at r       from an offset between two words on, to the text's end and with it
 --   left more t at r       the same, or nothing where the end is read
 --   Continues t at r a     a part of it is read, up to a command or the end
-use Rattle.std.specs.Prelude.{ℕ, ◌<◌, ◌≤◌, ◌≡◌, List, [], ◌++◌, map, Bool, cond, length, ltb}
+use Rattle.std.specs.Prelude.{ℕ, ◌<◌, ◌≤◌, ◌≡◌, List, [], ◌++◌, map, Bool, cond, length, ltb, Option}
 use Rattle.model.specs.declared.Command.{Command}
 use Rattle.recording.specs.declared.Reader.{Reader}
 use Rattle.recording.specs.declared.Strobe.{Strobe}
@@ -33,7 +33,7 @@ abbrev pub left : Bool → List ℕ → ℕ → Reader → Remaining
 left more t at r = cond more (remaining t at r) (remaining_with [] [] r)
 
 -- The command of a strobe, if it gives one, before others.
-abbrev pub before : Strobe → ℕ → Remaining → Remaining
+abbrev pub before : Option Strobe → ℕ → Remaining → Remaining
 before s time q = remaining_with (commands_of s ++ q.commands) (map (λ (c : Command). time) (commands_of s) ++ q.times) q.reader
 
 -- At the end of the words the end of the text is read.

@@ -56,12 +56,10 @@ fn room(length: usize) -> usize
 // ---- one command after another
 
 // The command of a strobe, none if there is none.
-fn taken(s: Strobe) -> Option<Command>
+fn taken(s: Option<Strobe>) -> Option<Command>
     ensures { one_command result ≡ commands_of s }
 {
-    if !s.given {
-        return None;
-    }
+    let s = s?;
     decoding::command(s.number, s.target, s.level)
 }
 

@@ -1,7 +1,6 @@
 // A text read on from an offset, up to the next command.
 ghost use Rattle.std.specs.Prelude.{◌<◌, ◌≡◌, true, length};
 ghost use Rattle.recording.specs.declared.Place.TheVariants.{Definition};
-ghost use Rattle.recording.specs.Records.{no_strobe};
 ghost use Rattle.vcd_reader.specs.Advances.{advanced_with, Advances};
 ghost use Rattle.vcd_reader.specs.Skipping.{SkipsTo, change_place};
 ghost use Rattle.vcd_reader.specs.Changes.{standing_with, after_command, Takes};
@@ -10,7 +9,7 @@ use crate::{Advanced, Standing, changes, runs, skipping};
 use recording::{Place, Reader, Strobe};
 use vcd_words::{readers, scanning, stamps, words};
 
-fn advanced_with(r: Reader, end: usize, s: Strobe, time: u64) -> Advanced
+fn advanced_with(r: Reader, end: usize, s: Option<Strobe>, time: u64) -> Advanced
     ensures { result ≡ advanced_with r end s time }
 {
     Advanced {
@@ -21,24 +20,13 @@ fn advanced_with(r: Reader, end: usize, s: Strobe, time: u64) -> Advanced
     }
 }
 
-fn no_strobe() -> Strobe
-    ensures { result ≡ no_strobe }
-{
-    Strobe {
-        given: false,
-        number: 0,
-        target: 0,
-        level: 0,
-    }
-}
-
 // A separator, or any word.
 fn any_word(text: &[u8], i: usize, r: Reader) -> Advanced
     requires { i < length text.now }
     ensures { Advances text.now i r result }
 {
     if scanning::is_separator(text[i]) {
-        return advanced_with(r, i + 1, no_strobe(), 0);
+        return advanced_with(r, i + 1, None, 0);
     }
     let s = scanning::scan(text, i, scanning::nothing());
     let a = words::word(r, i as u64, s.partial);
@@ -108,7 +96,7 @@ fn after_changes(text: &[u8], from: usize, r: Reader, block: bool) -> Advanced
     let p = changes::quiet(text, from, r, block);
     let i = p.end;
     if text.len() <= i {
-        return advanced_with(p.reader, i, no_strobe(), 0);
+        return advanced_with(p.reader, i, None, 0);
     }
     if p.block {
         return any_word(text, i, p.reader);
@@ -120,7 +108,7 @@ fn after_changes(text: &[u8], from: usize, r: Reader, block: bool) -> Advanced
                 return advanced_with(
                     taken_at(p.reader, t.time),
                     t.end,
-                    stamps::strobe(p.reader),
+                    Some(stamps::strobe(p.reader)),
                     p.reader.stamp.time,
                 );
             }
@@ -138,9 +126,9 @@ fn after_skipped(text: &[u8], from: usize, r: Reader, next: Place) -> Advanced
 {
     let e = skipping::to_end(text, from);
     if e.found {
-        return advanced_with(readers::at(r, next), e.end, no_strobe(), 0);
+        return advanced_with(readers::at(r, next), e.end, None, 0);
     }
-    advanced_with(r, e.end, no_strobe(), 0)
+    advanced_with(r, e.end, None, 0)
 }
 
 // Definitions that are skipped, then the word that stops them.
@@ -150,7 +138,7 @@ fn after_definitions(text: &[u8], from: usize, r: Reader) -> Advanced
 {
     let i = skipping::definitions(text, from);
     if text.len() <= i {
-        return advanced_with(r, i, no_strobe(), 0);
+        return advanced_with(r, i, None, 0);
     }
     any_word(text, i, r)
 }
@@ -163,10 +151,10 @@ pub fn advance(text: &[u8], from: usize, r: Reader) -> Advanced
     ensures { Advances text.now from r result }
 {
     if text.len() <= from {
-        return advanced_with(r, from, no_strobe(), 0);
+        return advanced_with(r, from, None, 0);
     }
     if r.fault.number != 0 {
-        return advanced_with(r, text.len(), no_strobe(), 0);
+        return advanced_with(r, text.len(), None, 0);
     }
     let place = r.place;
     let here = standing_at(place);

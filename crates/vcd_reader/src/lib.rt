@@ -85,6 +85,6 @@ pub struct Standing {
 pub struct Advanced {
     pub reader: Reader,
     pub end: usize,
-    pub strobe: Strobe,
+    pub strobe: Option<Strobe>,
     pub time: u64,
 }

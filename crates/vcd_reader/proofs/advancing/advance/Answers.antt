@@ -8,13 +8,13 @@ use Rattle.vcd_reader.proofs.advancing.advance.Goals as goal
 
 pub returns-then-text-from : goal.returns-then-text-from
 returns-then-text-from c =
-    rw (c.advanced_with.ensures, c.no_strobe.ensures)
+    rw (c.advanced_with.ensures)
     (advances_quiet _ 0 (follows_none _ _ _) (λ h. omega (arith, c.if-text-from.true)))
 
 pub returns-then-r-ne0 : goal.returns-then-r-ne0
 returns-then-r-ne0 c =
     let inside = c.if-text-from.false in
-    rw (c.advanced_with-then-r-ne0.ensures, c.no_strobe-then-r-ne0.ensures)
+    rw (c.advanced_with-then-r-ne0.ensures)
     (advances_quiet _ 0 (follows_bad _ _ _ (omega (arith, inside)) (ne_eqb _ _ c.if-r-ne0.true)) (λ h. h))
 
 pub after_skipped-requires : goal.after_skipped-requires

@@ -7,7 +7,7 @@ use Rattle.vcd_reader.proofs.advancing.any_word.Goals as goal
 pub returns-then-is_separator : goal.returns-then-is_separator
 returns-then-is_separator c =
     let a = c.args in
-    rw (c.advanced_with.ensures, c.no_strobe.ensures)
+    rw (c.advanced_with.ensures)
     (advances_quiet _ 0
     (follows_separator _ a.i a.r c.requires (sym c.is_separator.ensures ∙ c.if-is_separator.true))
     (λ h. omega arith))
