@@ -5,7 +5,7 @@
 use Prim.Native.Nat.{ℕ, zero, suc, ◌^◌, ◌≤◌, ◌<◌, min}
 use Prim.Native.String.{String}
 use mathlib.Core.Path.{◌≡◌, refl, sym, ap, ◌∙◌}
-use mathlib.Core.Option.{none}
+use Rattle.std.specs.Prelude.{None}
 use mathlib.Core.List.{List, [], ◌∷◌, ◌++◌, map, map-map}
 use mathlib.Core.Bool.{Bool, true, false, not, ◌&&◌, ◌||◌, cond, and-false}
 use native.Mathlib.Omega.{arith}
@@ -110,7 +110,7 @@ module _ (w : List ℕ) (long : Long w) where
   not_dump =
       rw (not_text "$dumpvars" refl, not_text "$dumpall" refl, not_text "$dumpon" refl, not_text "$dumpoff" refl)
 
-  not_signal : signal_of w ≡ none
+  not_signal : signal_of w ≡ None
   not_signal =
       rw (not_text "stb" refl, not_text "cmd" refl, not_text "core" refl, not_text "arg" refl, not_text "prio" refl)
 
@@ -125,7 +125,7 @@ module _ (w : List ℕ) (long : Long w) where
       go zero = refl
       go (suc c) = rw (ne_eqb (suc c) 0 (λ e. omega arith)) (and-false (ltb 0 (suc c)))
 
-  not_vector_code : (r : Reader) → vector_signal r w ≡ none
+  not_vector_code : (r : Reader) → vector_signal r w ≡ None
   not_vector_code r = rw (no_code r Cmd, no_code r Core, no_code r Arg, no_code r Prio)
 
 -- ---- what is asked of two words that are alike

@@ -5,7 +5,7 @@ use Prim.Native.Nat.{ℕ, ◌≤◌}
 use Prim.Native.String.{String}
 use mathlib.Core.Path.{◌≡◌, refl, sym, ap, subst, ◌∙◌}
 use mathlib.Core.Logic.{◌≢◌}
-use mathlib.Core.Option.{Option, some}
+use Rattle.std.specs.Prelude.{Option, Some}
 use mathlib.Core.List.Memᴰ.{head as here}
 use mathlib.Core.List.Memᴰ.{tail as there}
 use mathlib.Core.List.{List, [], ◌∷◌, tail, Memᴰ}
@@ -156,12 +156,12 @@ is_vector_lem Prio h = there (there (there (here refl)))
 -- the code of a declared vector is taken for a variable that is wide enough
 takes_vector_lem : (r : Reader) (ds : List Declaration) (a : Agrees r.variables ds) (d : Declaration) (m : Memᴰ d ds) →
     d.name ≢ name_of Stb → (c : List ℕ) → c ≡ d.code →
-    r.pending.vector.length ≤ d.width → (s : Signal) × (vector_signal r c ≡ some s) ×
+    r.pending.vector.length ≤ d.width → (s : Signal) × (vector_signal r c ≡ Some s) ×
     (leb r.pending.vector.length (variable r s).width ≡ true)
 unfolding vectors
 takes_vector_lem r ds a d m h c e l =
     let x : Known r.variables d = known r ds a d m in
-    let f : (s : Signal) × (vector_signal r c ≡ some s) × (has_code r c s ≡ true) =
+    let f : (s : Signal) × (vector_signal r c ≡ Some s) × (has_code r c s ≡ true) =
     first_in (has_code r c) vectors x.signal (is_vector_lem x.signal (λ p. h (x.named ∙ p)))
     (rw e (has_code_of r ds a d m x.signal x.named)) in (
       f.0,
@@ -200,7 +200,7 @@ module _ (n : ℕ) (ds : List Declaration) (p q : Place) (places : Changing p q)
   unfolding Follows Declared Vectored read_vector_code
   coded d m h l fits c e ws follows x ex g i =
       let r : Reader = x.reader in
-      let t : (s : Signal) × (vector_signal r c.bytes ≡ some s) × (leb r.pending.vector.length (variable r s).width ≡ true) =
+      let t : (s : Signal) × (vector_signal r c.bytes ≡ Some s) × (leb r.pending.vector.length (variable r s).width ≡ true) =
       takes_vector_lem r ds i.0 d m h c.bytes e (omega (arith, i.1, fits)) in
       let y : Reader = at p (with_value t.0 r.pending.vector.value r) in
       move n q p (Declared ds) x c ws ex g (places.code_fits r c (ap (λ (o : Option Signal). takes_vector o r) t.1 ∙ t.2))

@@ -4,7 +4,7 @@
 --   name_injective   different variables have different names
 use Prim.Native.Nat.{ℕ, suc, ◌+◌, ◌*◌, ◌<◌, ◌≤◌}
 use mathlib.Core.Path.{◌≡◌, refl, sym, ap, ◌∙◌}
-use mathlib.Core.Option.{some}
+use Rattle.std.specs.Prelude.{Some}
 use mathlib.Core.List.{List, [], ◌∷◌}
 use mathlib.Core.Bool.{Bool, true, false, cond, true≢false}
 use native.Mathlib.Omega.{arith}
@@ -33,7 +33,7 @@ same_bytes_lem (x ∷ xs) (y ∷ ys) e =
 
 -- ---- names
 
-pub signal_of_name : (s : Signal) → signal_of (name_of s) ≡ some s
+pub signal_of_name : (s : Signal) → signal_of (name_of s) ≡ Some s
 signal_of_name Stb = refl
 signal_of_name Cmd = refl
 signal_of_name Core = refl
@@ -42,7 +42,7 @@ signal_of_name Prio = refl
 
 pub name_injective : (s s' : Signal) → name_of s ≡ name_of s' → s ≡ s'
 name_injective s s' e =
-    let p : some s ≡ some s' = sym (signal_of_name s) ∙ ap signal_of e ∙ signal_of_name s' in
+    let p : Some s ≡ Some s' = sym (signal_of_name s) ∙ ap signal_of e ∙ signal_of_name s' in
     cc
 
 -- ---- codes

@@ -4,10 +4,9 @@
 --   Fit r            they are those of a reader
 --   read_word-fit     a word keeps it
 --   named_one        so that the number of a strobe names a command
-use Rattle.std.specs.Prelude.{Some}
 use Prim.Native.Nat.{ℕ, zero, suc, ◌*◌, ◌^◌, ◌<◌, ◌≤◌, min}
 use mathlib.Core.Path.{◌≡◌, refl, subst}
-use mathlib.Core.Option.{Option, none, some}
+use Rattle.std.specs.Prelude.{Option, None, Some}
 use mathlib.Core.List.{List, [], ◌∷◌, map, tail}
 use mathlib.Core.Bool.{Bool, true, false, not, ◌&&◌, ◌||◌, cond}
 use native.Mathlib.Omega.{arith}
@@ -150,8 +149,8 @@ module _ (r : Reader) (w : Word) (h : Fit r) where
 
   name_fit : (o : Option Signal) → Fit (read_name o r w)
   unfolding read_name
-  name_fit none = h
-  name_fit (some s) = go (declares r s) refl
+  name_fit None = h
+  name_fit (Some s) = go (declares r s) refl
     where
       go : (b : Bool) → declares r s ≡ b → Fit (cond b (at VarEnd (declaring s r)) (refused 12 w.at r))
       go true e = declaring_fit s e
@@ -179,8 +178,8 @@ module _ (r : Reader) (w : Word) (h : Fit r) where
 
   code_fit : (p : Place) (o : Option Signal) → vector_signal r w.bytes ≡ o → Fit (read_vector_code p o r w)
   unfolding read_vector_code
-  code_fit p none f = h
-  code_fit p (some s) f = go (leb r.pending.vector.length (variable r s).width) refl
+  code_fit p None f = h
+  code_fit p (Some s) f = go (leb r.pending.vector.length (variable r s).width) refl
     where
       has : has_code r w.bytes s ≡ true
       has = (first_out (has_code r w.bytes) (Cmd ∷ Core ∷ Arg ∷ Prio ∷ []) s f).1

@@ -4,7 +4,7 @@
 use Prim.Native.Nat.{ℕ, ◌<◌, ◌≤◌, min}
 use mathlib.Core.Path.{◌≡◌, refl, sym, ap, subst, ◌∙◌}
 use mathlib.Core.Logic.{◌≢◌}
-use mathlib.Core.Option.{Option, none, some}
+use Rattle.std.specs.Prelude.{Option, None, Some}
 use mathlib.Core.List.Memᴰ.{head as here}
 use mathlib.Core.List.Memᴰ.{tail as there}
 use mathlib.Core.List.{List, [], ◌∷◌, tail, Memᴰ}
@@ -118,8 +118,8 @@ module _ (r : Reader) (w : Word) (ws : List Word) (ds : List Declaration) (a : A
   -- a name: the variable that it names is declared
   name_step : (o : Option Signal) → signal_of w.bytes ≡ o → is_declared o r ≡ true → Next ws (read_name o r w) → Rest Name r ds (w ∷ ws)
   unfolding Next Rest read_name
-  name_step none e f next v i x c pv pi px pc = absurd (true≢false (sym f))
-  name_step (some s) e f next v i x c pv pi px pc =
+  name_step None e f next v i x c pv pi px pc = absurd (true≢false (sym f))
+  name_step (Some s) e f next v i x c pv pi px pc =
       close ws (subst (Next ws) (ap (λ (b : Bool). cond b (at VarEnd (declaring s r)) (refused 12 w.at r)) f) next (d ∷ ds)
       (agrees_declared r ds s d pends (declares_out r s d pends f) a))
     where
@@ -172,8 +172,8 @@ not_stb s m e = true≢false (sym (ap is_stb (name_injective s Stb e)) ∙ vecto
 
 module _ (r : Reader) (c : Word) (ws : List Word) (ds : List Declaration) (a : Agrees r.variables ds) (w : Word) (v : Vectored r w) where
   vector_step : (o : Option Signal) → vector_signal r c.bytes ≡ o → takes_vector o r ≡ true → Change ds (w ∷ c ∷ ws) ws
-  vector_step none e t = absurd (true≢false (sym t))
-  vector_step (some s) e t =
+  vector_step None e t = absurd (true≢false (sym t))
+  vector_step (Some s) e t =
       let f : Memᴰ s (Cmd ∷ Core ∷ Arg ∷ Prio ∷ []) × (has_code r c.bytes s ≡ true) =
       first_out (has_code r c.bytes) (Cmd ∷ Core ∷ Arg ∷ Prio ∷ []) s e in
       let x : (x : Declares r ds s) × (c.bytes ≡ x.declaration.code) = code_of_lem r ds s c.bytes a f.1 in
@@ -206,8 +206,8 @@ module _ (r : Reader) (w : Word) (ws : List Word) (ds : List Declaration) (a : A
   code_next : (p : Place) (T : Type 0) → ((x : Reader) → Agrees x.variables ds → Next ws (at p x) → T) →
       (o : Option Signal) → takes_vector o r ≡ true → Next ws (read_vector_code p o r w) → T
   unfolding read_vector_code
-  code_next p T plain none t next = absurd (true≢false (sym t))
-  code_next p T plain (some s) t next =
+  code_next p T plain None t next = absurd (true≢false (sym t))
+  code_next p T plain (Some s) t next =
       plain (with_value s r.pending.vector.value r) (agrees_kept r.variables _ ds (value_kinds r s r.pending.vector.value) a)
       (chosen (leb r.pending.vector.length (variable r s).width) (at p (with_value s r.pending.vector.value r))
       (out_of_place w r) ws t next)

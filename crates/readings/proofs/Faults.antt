@@ -2,10 +2,9 @@
 -- (`FaultsExact`, `StrobesExact`). Assumes nothing.
 --   end_open_stamp-fault, end_open_stamp-strobe    the end of a stamp: 13, 19, or the command
 --   read_at-fault, read_at-strobe                a word, place by place
-use Rattle.std.specs.Prelude.{None, Option as Perhaps, Some}
 use Prim.Native.Nat.{ℕ, suc, min}
 use mathlib.Core.Path.{◌≡◌, refl, ap, ◌∙◌}
-use mathlib.Core.Option.{Option, none, some}
+use Rattle.std.specs.Prelude.{Option, None, Some}
 use mathlib.Core.List.{[], ◌∷◌, tail}
 use mathlib.Core.Bool.{Bool, true, false, not, ◌&&◌, ◌||◌, cond}
 use lib.ListN.{get_or}
@@ -73,7 +72,7 @@ by_ends P false false true o a b t u i pa pb pt pu pi = pt
 by_ends P false false false true a b t u i pa pb pt pu pi = pu
 by_ends P false false false false a b t u i pa pb pt pu pi = pi
 
-ended_fault : (p q s o : Bool) (n : ℕ) (r t : Reader) (c : Perhaps Strobe) → t.fault ≡ r.fault → (u : Reader) → u.fault ≡ r.fault →
+ended_fault : (p q s o : Bool) (n : ℕ) (r t : Reader) (c : Option Strobe) → t.fault ≡ r.fault → (u : Reader) → u.fault ≡ r.fault →
     (cond p (only (refused 13 n r)) (cond q (only (refused 19 n r)) (cond s (read_with t c) (cond o (only u) (only r))))).reader.fault ≡
     cond p (fault_with 13 n) (cond q (fault_with 19 n) r.fault)
 ended_fault true q s o n r t c e u e' = refl
@@ -89,7 +88,7 @@ end_open_stamp-fault n r =
     (with_taken (suc r.taken) (with_up true r)) (Some (strobe_of r)) refl (with_up (is_high r) r) refl
 
 -- a command exactly at a strobe that shows neither
-ended_strobe : (o p q s : Bool) (a b u i : Reader) (t : Reader) (c : Perhaps Strobe) →
+ended_strobe : (o p q s : Bool) (a b u i : Reader) (t : Reader) (c : Option Strobe) →
     (cond (o && p) (only a) (cond (o && q) (only b) (cond (o && s) (read_with t c) (cond o (only u) (only i))))).strobe ≡
     cond (o && s && not p && not q) c None
 ended_strobe true true q true a b u i t c = refl
@@ -211,8 +210,8 @@ module _ (r : Reader) (w : Word) where
 
   name_fault : (o : Option Signal) → (read_name o r w).fault ≡ cond (not (is_declared o r)) (fault_with 12 w.at) r.fault
   unfolding read_name
-  name_fault none = refl
-  name_fault (some s) = judged (declares r s) (at VarEnd (declaring s r)) (refused 12 w.at r)
+  name_fault None = refl
+  name_fault (Some s) = judged (declares r s) (at VarEnd (declaring s r)) (refused 12 w.at r)
 
   change_fault : (p q : Place) → (read_change p q r w).fault ≡ cond (not (is_change r w.bytes)) (fault_with 11 w.at) r.fault
   unfolding read_change
@@ -228,8 +227,8 @@ module _ (r : Reader) (w : Word) where
   code_fault : (p : Place) (o : Option Signal) →
       (read_vector_code p o r w).fault ≡ cond (not (takes_vector o r)) (fault_with 11 w.at) r.fault
   unfolding read_vector_code
-  code_fault p none = refl
-  code_fault p (some s) =
+  code_fault p None = refl
+  code_fault p (Some s) =
       judged (leb r.pending.vector.length (variable r s).width) (at p (with_value s r.pending.vector.value r)) (out_of_place w r)
 
   block_fault : (read_block r w).fault ≡ cond (not (is_text "$end" w.bytes || is_change r w.bytes)) (fault_with 11 w.at) r.fault

@@ -2,10 +2,9 @@
 --   Within                   `ReaderFits` by its parts, which a place or a flag doesn't change
 --   value_below, code_below  what bits and codes spell
 --   word_fits, finish_fits   a word, and the end
-use Rattle.std.specs.Prelude.{Some}
 use Prim.Native.Nat.{ℕ, suc, ◌+◌, ◌*◌, ◌^◌, ◌<◌, ◌≤◌, min}
 use mathlib.Core.Path.{◌≡◌, refl, sym, subst, ap, ◌∙◌}
-use mathlib.Core.Option.{Option, none, some}
+use Rattle.std.specs.Prelude.{Option, None, Some}
 use mathlib.Core.List.{List, [], ◌∷◌, tail, map}
 use mathlib.Core.Bool.{Bool, true, false, not, ◌&&◌, cond}
 use native.Mathlib.Omega.{arith}
@@ -178,8 +177,8 @@ module _ (r : Reader) (w : Word) (h : In r) (l : w.at < 2 ^ 64) where
 
   name_in : (o : Option Signal) → In (read_name o r w)
   unfolding read_name
-  name_in none = bad_in
-  name_in (some s) =
+  name_in None = bad_in
+  name_in (Some s) =
       either (declares r s) _ _
       (written_in r h s (variable_with r.pending.code r.pending.width (variable r s).value)
       (record { code = p.code; width = p.width; number = (h.variables s).number })) bad_in
@@ -199,8 +198,8 @@ module _ (r : Reader) (w : Word) (h : In r) (l : w.at < 2 ^ 64) where
 
   given_in : (next : Place) (o : Option Signal) → In (read_vector_code next o r w)
   unfolding read_vector_code
-  given_in next none = out_in
-  given_in next (some s) =
+  given_in next None = out_in
+  given_in next (Some s) =
       either (leb r.pending.vector.length (variable r s).width) _ _
       (value_in r h s r.pending.vector.value p.vector_number) out_in
 

@@ -4,7 +4,7 @@
 use Prim.Native.Nat.{ℕ, ◌<◌, min}
 use mathlib.Core.Path.{◌≡◌, refl, sym, ap, ◌∙◌}
 use mathlib.Core.Logic.{◌≢◌}
-use mathlib.Core.Option.{Option, some}
+use Rattle.std.specs.Prelude.{Option, Some}
 use mathlib.Core.List.Memᴰ.{head as here}
 use mathlib.Core.List.Memᴰ.{tail as there}
 use mathlib.Core.List.{List, [], ◌∷◌, Memᴰ}
@@ -126,7 +126,7 @@ module _ (n : ℕ) (ds : List Declaration) where
       let k : (s : Signal) × (m.bytes ≡ name_of s) × (decimal w.bytes ≡ width_in f.form s) = f.right d (here refl) in
       let p : Pends r k.0 d = record { named = k.1; width = i.1; coded = pc; code = i.2 } in
       let q : Right r k.0 d = is_right r ds i.0 d pc f k.0 k.1 in
-      let o : signal_of m.bytes ≡ some k.0 = ap signal_of k.1 ∙ signal_of_name k.0 in
+      let o : signal_of m.bytes ≡ Some k.0 = ap signal_of k.1 ∙ signal_of_name k.0 in
       let t : declares r k.0 ≡ true = declares_in r k.0 d p q in
       move n Name VarEnd (Declared (d ∷ ds)) x m (e ∷ ws) ex g refl (ap (λ (y : Option Signal). is_declared y r) o ∙ t)
       (at VarEnd (declaring k.0 r))

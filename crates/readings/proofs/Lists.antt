@@ -3,7 +3,8 @@
 --   first_in, first_out                           the first that passes a test
 --   every_signal, compare                         the five variables, one by one and two by two
 use mathlib.Core.Path.{◌≡◌, refl, sym, ap, ◌∙◌}
-use mathlib.Core.Option.{some, none-ne-some}
+use Rattle.std.specs.Prelude.{Some}
+use Rattle.std.proofs.lemmas.Option.{none-some}
 use mathlib.Core.List.Memᴰ.{head as here}
 use mathlib.Core.List.Memᴰ.{tail as there}
 use mathlib.Core.List.{List, [], ◌∷◌, Memᴰ}
@@ -47,30 +48,30 @@ module _ {A : Type 0} (f : A → Bool) where
 
 -- ---- the first that passes
 
-pub first_out : (f : Signal → Bool) (l : List Signal) (s : Signal) → first f l ≡ some s → Memᴰ s l × (f s ≡ true)
-first_out f [] s e = absurd (none-ne-some s e)
+pub first_out : (f : Signal → Bool) (l : List Signal) (s : Signal) → first f l ≡ Some s → Memᴰ s l × (f s ≡ true)
+first_out f [] s e = absurd (none-some s e)
 first_out f (x ∷ xs) s e = go (flag (f x)) (first_out f xs s)
   where
-    go : Flag (f x) → (first f xs ≡ some s → Memᴰ s xs × (f s ≡ true)) → Memᴰ s (x ∷ xs) × (f s ≡ true)
+    go : Flag (f x) → (first f xs ≡ Some s → Memᴰ s xs × (f s ≡ true)) → Memᴰ s (x ∷ xs) × (f s ≡ true)
     go (on p) rest =
-        let q : some x ≡ some s = sym (ap (λ (b : Bool). cond b (some x) (first f xs)) p) ∙ e in
+        let q : Some x ≡ Some s = sym (ap (λ (b : Bool). cond b (Some x) (first f xs)) p) ∙ e in
         let r : x ≡ s = cc in
         (here (sym r), sym (ap f r) ∙ p)
     go (off p) rest =
-        let r : Memᴰ s xs × (f s ≡ true) = rest (sym (ap (λ (b : Bool). cond b (some x) (first f xs)) p) ∙ e) in
+        let r : Memᴰ s xs × (f s ≡ true) = rest (sym (ap (λ (b : Bool). cond b (Some x) (first f xs)) p) ∙ e) in
         (there r.0, r.1)
 
 pub first_in : (f : Signal → Bool) (l : List Signal) (s : Signal) → Memᴰ s l → f s ≡ true →
-    (s' : Signal) × (first f l ≡ some s') × (f s' ≡ true)
+    (s' : Signal) × (first f l ≡ Some s') × (f s' ≡ true)
 first_in f [] s m e = elim m [ ]
 first_in f (x ∷ xs) s m e = go (flag (f x)) m (first_in f xs s)
   where
-    go : Flag (f x) → Memᴰ s (x ∷ xs) → (Memᴰ s xs → f s ≡ true → (s' : Signal) × (first f xs ≡ some s') × (f s' ≡ true)) →
-        (s' : Signal) × (first f (x ∷ xs) ≡ some s') × (f s' ≡ true)
+    go : Flag (f x) → Memᴰ s (x ∷ xs) → (Memᴰ s xs → f s ≡ true → (s' : Signal) × (first f xs ≡ Some s') × (f s' ≡ true)) →
+        (s' : Signal) × (first f (x ∷ xs) ≡ Some s') × (f s' ≡ true)
     go (on p) k rest = (x, rw p, p)
     go (off p) (here q) rest = clash e (ap f q ∙ p)
     go (off p) (there k) rest =
-        let r : (s' : Signal) × (first f xs ≡ some s') × (f s' ≡ true) = rest k e in
+        let r : (s' : Signal) × (first f xs ≡ Some s') × (f s' ≡ true) = rest k e in
         (r.0, rw p r.1, r.2)
 
 -- ---- the five variables

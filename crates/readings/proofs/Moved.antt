@@ -6,10 +6,9 @@
 --   words_moved, times_moved         many words: reader and commands, and the times
 -- Every reader that is moved itself reads moved words so (`any_word`, `any_finish`, `any_words`, `any_times`), and one without a fault is
 -- moved as it stands (`good_stays`).
-use Rattle.std.specs.Prelude.{Some}
 use Prim.Native.Nat.{ℕ, suc, ◌+◌, ◌≤◌, min}
 use mathlib.Core.Path.{◌≡◌, refl, sym, ap, ◌∙◌}
-use mathlib.Core.Option.{Option, none, some}
+use Rattle.std.specs.Prelude.{Option, None, Some}
 use mathlib.Core.List.{List, [], ◌∷◌, ◌++◌, map, tail}
 use mathlib.Core.Bool.{Bool, true, false, not, cond}
 use native.Mathlib.Omega.{arith}
@@ -121,8 +120,8 @@ module _ (n : ℕ) (r : Reader) (w : Word) where
 
   name_moved : (o : Option Signal) → read_name o s v ≡ moved n (read_name o r w)
   unfolding read_name declares
-  name_moved none = refl
-  name_moved (some x) = chosen (moved n) (declares r x) (at VarEnd (declaring x r)) (refused 12 w.at r)
+  name_moved None = refl
+  name_moved (Some x) = chosen (moved n) (declares r x) (at VarEnd (declaring x r)) (refused 12 w.at r)
 
   change_moved : (p q : Place) → read_change p q s v ≡ moved n (read_change p q r w)
   unfolding read_change
@@ -132,8 +131,8 @@ module _ (n : ℕ) (r : Reader) (w : Word) where
 
   code_moved : (p : Place) (o : Option Signal) → read_vector_code p o s v ≡ moved n (read_vector_code p o r w)
   unfolding read_vector_code
-  code_moved p none = refl
-  code_moved p (some x) =
+  code_moved p None = refl
+  code_moved p (Some x) =
       chosen (moved n) (leb r.pending.vector.length (variable r x).width) (at p (with_value x r.pending.vector.value r))
       (out_of_place w r)
 

@@ -4,10 +4,9 @@
 --   word_aside, word_quiet    a word that doesn't stand as a time leaves both alone, and gives no command
 --   read_time_lem, time_kept      one that does is read as a time, and leaves the count alone once its stamp is ended
 --   Opens, opens_later        and where it shows no fault it is a time, later than the one before, and opens its stamp
-use Rattle.std.specs.Prelude.{None}
 use Prim.Native.Nat.{ℕ, ◌<◌}
 use mathlib.Core.Path.{◌≡◌, refl, sym, ap, ◌∙◌, subst}
-use mathlib.Core.Option.{Option, none, some}
+use Rattle.std.specs.Prelude.{Option, None, Some}
 use mathlib.Core.Bool.{Bool, true, false, not, ◌&&◌, cond, true≢false}
 use lib.Dec.{ltb, leb}
 use borrow.Author.Tests.{ltb-true}
@@ -48,8 +47,8 @@ module _ (r : Reader) (w : Word) where
 
   name_aside : (o : Option Signal) → Aside r (read_name o r w)
   unfolding read_name
-  name_aside none = same
-  name_aside (some s) = either (declares r s) (at VarEnd (declaring s r)) (refused 12 w.at r) same same
+  name_aside None = same
+  name_aside (Some s) = either (declares r s) (at VarEnd (declaring s r)) (refused 12 w.at r) same same
 
   change_aside : (p q : Place) → Aside r (read_change p q r w)
   unfolding read_change
@@ -57,8 +56,8 @@ module _ (r : Reader) (w : Word) where
 
   code_aside : (p : Place) (o : Option Signal) → Aside r (read_vector_code p o r w)
   unfolding read_vector_code
-  code_aside p none = same
-  code_aside p (some s) = either (leb r.pending.vector.length (variable r s).width) _ _ same same
+  code_aside p None = same
+  code_aside p (Some s) = either (leb r.pending.vector.length (variable r s).width) _ _ same same
 
   body_aside : (t c d : Bool) → t ≡ false →
       Aside r

@@ -4,7 +4,7 @@
 --   signal_of w           the variable of a name
 --   declares r s         a declaration of s with the width and code just read is right
 use Rattle.std.specs.Prelude.{ℕ, List, [], ◌∷◌, Bool, not, ◌&&◌, ◌||◌, cond, ltb, eqb}
-use Rattle.std.proofs.Math.Option.{Option, none, some}
+use Rattle.std.specs.Prelude.{Option, None, Some}
 use Rattle.recording.specs.declared.Signal.{Signal}
 use Rattle.recording.specs.declared.Signal.TheVariants.{Stb, Cmd, Core, Arg, Prio}
 use Rattle.recording.specs.declared.Reader.{Reader}
@@ -24,8 +24,8 @@ name_of Prio = bytes_of "prio"
 
 -- The first of a list that passes a test.
 abbrev pub first : (Signal → Bool) → List Signal → Option Signal
-first f [] = none
-first f (s ∷ ss) = cond (f s) (some s) (first f ss)
+first f [] = None
+first f (s ∷ ss) = cond (f s) (Some s) (first f ss)
 
 abbrev pub signal_of : List ℕ → Option Signal
 signal_of w = first (λ s. same_bytes w (name_of s)) signals

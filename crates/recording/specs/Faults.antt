@@ -3,8 +3,8 @@
 -- Every reading shows exactly these faults (`FaultsExact`).
 --   fault_at r w       the fault of a reader without one after the word w, at the word's offset; none: the reader's own
 --   fault_at_end n r    the same at the end of a text of n bytes, at n
-use Rattle.std.specs.Prelude.{ℕ, List, Bool, true, false, not, ◌&&◌, ◌||◌, cond, leb, Option as Perhaps, Some, None}
-use Rattle.std.proofs.Math.Option.{Option, none, some}
+use Rattle.std.specs.Prelude.{ℕ, List, Bool, true, false, not, ◌&&◌, ◌||◌, cond, leb}
+use Rattle.std.specs.Prelude.{Option, None, Some}
 use Rattle.recording.specs.declared.Place.{Place}
 use Rattle.recording.specs.declared.Place.TheVariants.{Definition, SkipDefinition, Wire, Width, Code, Name, VarEnd, DefinitionsEnd}
 use Rattle.recording.specs.declared.Place.TheVariants.{Body, SkipBody, BodyCode, Block, BlockCode}
@@ -36,8 +36,8 @@ excessive r = rises r && leb max_commands r.taken
 -- ---- 11: the word can't stand at its place
 
 abbrev pub takes_vector : Option Signal → Reader → Bool
-takes_vector none r = false
-takes_vector (some s) r = leb r.pending.vector.length (variable r s).width
+takes_vector None r = false
+takes_vector (Some s) r = leb r.pending.vector.length (variable r s).width
 
 abbrev pub is_change : Reader → List ℕ → Bool
 is_change r w = is_vector w || is_scalar r w
@@ -60,8 +60,8 @@ fits_in BlockCode r w = takes_vector (vector_signal r w) r
 -- ---- 12: at the name, or at $enddefinitions
 
 abbrev pub is_declared : Option Signal → Reader → Bool
-is_declared none r = false
-is_declared (some s) r = declares r s
+is_declared None r = false
+is_declared (Some s) r = declares r s
 
 unfoldable pub declares_well : Place → Reader → List ℕ → Bool
 declares_well Definition r w = is_skipped w || is_text "$var" w || all_declared r
@@ -100,5 +100,5 @@ fault_at_end n r =
     (cond (not (is_body r.place)) (fault_with 11 n) r.fault))
 
 -- The command taken where a stamp ends: at a strobe with neither 13 nor 19, whatever else the word is.
-unfoldable pub taken_at : Bool → Reader → Perhaps Strobe
+unfoldable pub taken_at : Bool → Reader → Option Strobe
 taken_at ends r = cond (ends && rises r && not (unclear r) && not (excessive r)) (Some (strobe_of r)) None

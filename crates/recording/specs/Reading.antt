@@ -7,7 +7,7 @@
 --   times_of t        the time of the stamp at whose end each command of `reading t` is taken, in their order
 use Rattle.std.specs.Prelude.{ℕ, ◌-◌, ◌^◌, min, Bool, true, false, not, ◌&&◌, ◌||◌, cond, length, get_or, ltb, leb, eqb}
 use Prim.Native.String.{String}
-use Rattle.std.proofs.Math.Option.{Option, none, some}
+use Rattle.std.specs.Prelude.{Option, None, Some}
 use mathlib.Core.List.{List, [], ◌∷◌, ◌++◌, map, tail}
 use Rattle.model.specs.declared.Command.{Command}
 use Rattle.recording.specs.declared.Place.{Place}
@@ -78,8 +78,8 @@ read_code r w = cond (is_code w.bytes) (at Name (with_code (code_of w.bytes) r))
 
 -- Width and code are judged here.
 unfoldable pub read_name : Option Signal → Reader → Word → Reader
-read_name none r w = refused bad_variable w.at r
-read_name (some s) r w = cond (declares r s) (at VarEnd (declaring s r)) (refused bad_variable w.at r)
+read_name None r w = refused bad_variable w.at r
+read_name (Some s) r w = cond (declares r s) (at VarEnd (declaring s r)) (refused bad_variable w.at r)
 
 -- ---- changes
 
@@ -103,8 +103,8 @@ vector_signal r w = first (has_code r w) (Cmd ∷ Core ∷ Arg ∷ Prio ∷ [])
 
 -- A vector longer than its variable shows here.
 unfoldable pub read_vector_code : Place → Option Signal → Reader → Word → Reader
-read_vector_code next none r w = out_of_place w r
-read_vector_code next (some s) r w =
+read_vector_code next None r w = out_of_place w r
+read_vector_code next (Some s) r w =
     cond (leb r.pending.vector.length (variable r s).width) (at next (with_value s r.pending.vector.value r))
     (out_of_place w r)
 

@@ -8,7 +8,7 @@
 use Rattle.std.specs.Prelude.{Some}
 use Prim.Native.Nat.{ℕ, ◌+◌, ◌-◌, ◌%◌, ◌<◌, ◌≤◌, min}
 use mathlib.Core.Path.{◌≡◌, refl, sym, ap, subst, ◌∙◌}
-use mathlib.Core.Option.{some}
+use Rattle.std.specs.Prelude.{Some}
 use mathlib.Core.List.{List, [], ◌∷◌, map}
 use mathlib.Core.Bool.{Bool, true, false, not, ◌&&◌, ◌||◌, and-false}
 use lib.ListN.{length, get_or}
@@ -62,7 +62,7 @@ module _ (r : Reader) (w : List ℕ) (s : Signal) where
 -- the first variable with a code
 module _ (vs : Variables) (code : ℕ) (h : code ≡ 0 → ⊥) where
   abbrev pub IsCodeOf : Signal → Type 0
-  IsCodeOf s = (r : Reader) (w : List ℕ) → r.variables ≡ vs → code ≡ code_of w → vector_signal r w ≡ some s
+  IsCodeOf s = (r : Reader) (w : List ℕ) → r.variables ≡ vs → code ≡ code_of w → vector_signal r w ≡ Some s
 
   -- the code of a variable, or of another
   has : (s : Signal) → code ≡ (variable_of vs s).code → (r : Reader) (w : List ℕ) → r.variables ≡ vs → code ≡ code_of w →
@@ -92,7 +92,7 @@ module _ (vs : Variables) (code : ℕ) (v : Vector) (p : Placed) where
   pub places_some :
       (s : Signal) (x : Variable) (fits : Bool) → p ≡ placed_with fits (with_variable_of vs s x) →
       fits ≡ leb v.length (variable_of vs s).width → x ≡ variable_with (variable_of vs s).code (variable_of vs s).width v.value →
-      (code ≡ 0 → ⊥) → ((r : Reader) (w : List ℕ) → r.variables ≡ vs → code ≡ code_of w → vector_signal r w ≡ some s) → Places vs code v p
+      (code ≡ 0 → ⊥) → ((r : Reader) (w : List ℕ) → r.variables ≡ vs → code ≡ code_of w → vector_signal r w ≡ Some s) → Places vs code v p
   unfolding read_vector_code
   places_some s x fits e ef ex h named =
       rw e
@@ -102,7 +102,7 @@ module _ (vs : Variables) (code : ℕ) (v : Vector) (p : Placed) where
       })
     where
       go : (next : Place) (r : Reader) (i : ℕ) (w : List ℕ) → r.variables ≡ vs → r.pending.vector ≡ v →
-          vector_signal r w ≡ some s → leb v.length (variable_of vs s).width ≡ true →
+          vector_signal r w ≡ Some s → leb v.length (variable_of vs s).width ≡ true →
           read_vector_code next (vector_signal r w) r (word_with i w) ≡ with_variables (with_variable_of vs s x) (at next r)
       go next r i w er ev es el =
           let el' : leb r.pending.vector.length (variable_of r.variables s).width ≡ true = rw (er, ev) el in

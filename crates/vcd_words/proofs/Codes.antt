@@ -1,21 +1,45 @@
 -- The code that a word's last bytes spell, length by length. Assumes nothing.
+--   all_told                 every byte passes a test
 --   code_one .. code_four    a code of one to four bytes
 --   code_other               no byte, or more than four: no code
 --   code_zero, code_some     a word that is no code, and one that is
-use Prim.Native.Nat.{ℕ, ◌+◌, ◌*◌, ◌/◌, ◌%◌, ◌<◌, ◌≤◌}
+use Prim.Native.Nat.{ℕ, zero, suc, ◌+◌, ◌*◌, ◌/◌, ◌%◌, ◌<◌, ◌≤◌}
 use mathlib.Core.Path.{◌≡◌, refl, sym, ap, ◌∙◌}
 use mathlib.Core.List.{List, [], ◌∷◌}
-use mathlib.Core.Bool.{true, false, ◌&&◌, cond, and-false, true≢false}
+use mathlib.Core.Bool.{Bool, true, false, ◌&&◌, cond, and-false, true≢false}
 use lib.ListN.{length}
 use lib.Dec.{ltb, leb}
 use native.Mathlib.Omega.{arith}
 use borrow.Author.Tests.{lt-leb, ltb-true, ltb-false, leb-true}
-use Rattle.lists.proofs.Bools.{and_l, and_r, Flag, on, off, flag}
+use Rattle.std.specs.Bool.{MatchBool}
+use Rattle.std.specs.List.{AllWithin, HoldsAt}
+use Rattle.lists.proofs.Bools.{and_l, and_r, and_in, Flag, on, off, flag}
 use Rattle.lists.specs.Numbers.{between}
 use Rattle.recording.specs.Words.{all}
 use Rattle.recording.specs.Values.{numeral, is_code, code_of}
 use Rattle.vcd_words.specs.Partial.{Ends}
 use Rattle.vcd_words.proofs.Spells.{small, head_small, tail_small}
+
+-- ---- every byte passes a test
+
+all_in : (f : ℕ → Bool) (bs : List ℕ) → AllWithin (λ b. f b ≡ true) bs 0 (length bs) → all f bs ≡ true
+all_in f [] h = refl
+all_in f (b ∷ bs) h =
+    and_in (h 0 b (omega arith) (omega arith)) (all_in f bs (λ k d low high. h (suc k) d (omega arith) (omega arith)))
+
+all_out : (f : ℕ → Bool) (bs : List ℕ) (k : ℕ) → k < length bs → HoldsAt (λ b. f b ≡ false) bs k → all f bs ≡ false
+all_out f [] k h e = absurd (omega arith)
+all_out f (b ∷ bs) zero h e = rw (e b)
+all_out f (b ∷ bs) (suc k) h e = rw (all_out f bs k (omega arith) (λ d. e d), and-false)
+
+pub all_told :
+    (f : ℕ → Bool) (r : Bool) (bs : List ℕ) →
+    MatchBool r (AllWithin (λ b. f b ≡ true) bs 0 (length bs)) ((k : ℕ) × (k < length bs) × HoldsAt (λ b. f b ≡ false) bs k) →
+    r ≡ all f bs
+all_told f true bs h = sym (all_in f bs h)
+all_told f false bs h = sym (all_out f bs h.0 h.1 h.2)
+
+-- ---- the code, length by length
 
 module _ (low before : ℕ) where
   pub code_one :

@@ -1,10 +1,10 @@
 -- What is kept of a word tells what the definitions ask of the word. Assumes nothing.
 --   kept_length, kept_first, kept_low, kept_high, kept_number    what is kept of a word, field by field
---   says_not_length, says_not_low, says_high                     a keyword is told by what is kept
+--   said                                                         a keyword is told by what is kept
 use Prim.Native.Nat.{ℕ, ◌<◌, min}
 use mathlib.Core.Path.{◌≡◌, refl, sym, ap, ◌∙◌}
 use mathlib.Core.List.{List, [], ◌∷◌, tail}
-use mathlib.Core.Bool.{false}
+use mathlib.Core.Bool.{◌&&◌}
 use lib.ListN.{length, get_or}
 use lib.Dec.{eqb}
 use native.Mathlib.Omega.{arith}
@@ -13,7 +13,7 @@ use Rattle.vcd_words.specs.declared.Partial.{Partial}
 use Rattle.vcd_words.specs.declared.Spelling.{Spelling}
 use Rattle.vcd_words.specs.declared.Keyword.{Keyword}
 use Rattle.vcd_words.specs.Partial.{spell_high, spell_low, begun_with, counted_of, extended_by, partial_of, Keeps, spelling_of, text_of}
-use Rattle.vcd_words.proofs.Spells.{other_length, other_low, same_spelling, keyword_small, keyword_short}
+use Rattle.vcd_words.proofs.Spells.{same_spelling, keyword_fits}
 
 module _ {p : Partial} {w : List ℕ} (k : Keeps p w) where
   pub kept_length : p.length ≡ min 256 (length w)
@@ -56,22 +56,10 @@ module _ {p : Partial} {w : List ℕ} (k : Keeps p w) where
       go [] h = absurd (omega arith)
       go (b ∷ v) h = refl
 
-  -- ---- keywords
-
-  module _ {s : Spelling} (word : Keyword) (e : s ≡ spelling_of (bytes_of (text_of word))) where
-    pub says_not_length : (p.length ≡ s.length → ⊥) → false ≡ is_text (text_of word) w
-    says_not_length h =
-        sym
-        (other_length w (bytes_of (text_of word)) (λ f. h (kept_length ∙ f ∙ sym (ap (λ (x : Spelling). x.length) e)))
-        (keyword_short word))
-
-    pub says_not_low : (p.low ≡ s.low → ⊥) → false ≡ is_text (text_of word) w
-    says_not_low h =
-        sym (other_low w (bytes_of (text_of word)) (λ f. h (kept_low ∙ f ∙ sym (ap (λ (x : Spelling). x.low) e))))
-
-    pub says_high : p.length ≡ s.length → p.low ≡ s.low → eqb p.high s.high ≡ is_text (text_of word) w
-    says_high f g =
-        rw (kept_high, ap (λ (x : Spelling). x.high) e)
-        (sym
-        (same_spelling w (bytes_of (text_of word)) k.small (keyword_small word) (keyword_short word)
-        (sym kept_length ∙ f ∙ ap (λ (x : Spelling). x.length) e) (sym kept_low ∙ g ∙ ap (λ (x : Spelling). x.low) e)))
+  -- a keyword is told by its spelling
+  pub said :
+      {s : Spelling} (word : Keyword) → s ≡ spelling_of (bytes_of (text_of word)) →
+      (eqb p.length s.length && (eqb p.high s.high && eqb p.low s.low)) ≡ is_text (text_of word) w
+  said word e =
+      rw (e, kept_length, kept_high, kept_low)
+      (sym (same_spelling w (bytes_of (text_of word)) k.small (keyword_fits word).0 (keyword_fits word).1))

@@ -1,26 +1,26 @@
 -- The number that a word spells, a byte at a time. Assumes nothing.
 --   digit_range                  the bytes that are digits
 --   between_more, between_end    the bytes from i on: the one at i and the rest; none
---   digits_more, digits_stop     a digit more; a byte that is none
---   bits_more, bits_stop         the same of bits
---   scan_first, scan_more        a run of bytes that begins a word, or goes on with one
+--   drop_more                    the bytes from i on: the one at i and the rest
+--   digits_more, bits_more       a digit more, a bit more
+--   run_prefix, run_inside       a run of bytes is the front of them
+--   extended_none, extended_first, extended_more    no bytes; bytes that begin a word, or go on with one
 use Prim.Native.Nat.{ℕ, suc, ◌+◌, ◌*◌, ◌-◌, ◌<◌, ◌≤◌, min}
 use mathlib.Core.Path.{◌≡◌, refl, sym, ap, ◌∙◌}
 use mathlib.Core.List.{List, [], ◌∷◌}
-use mathlib.Core.Bool.{Bool, true, false, ◌&&◌, ◌||◌}
+use mathlib.Core.Bool.{Bool, true, ◌&&◌}
 use lib.ListN.{length, get_or, take, drop, length-take, length-drop}
-use lib.Seq.{drop-cons}
-use lib.Dec.{ltb, leb}
+use lib.Seq.{drop-cons, take-length}
+use lib.Dec.{leb}
 use native.Mathlib.Numerals.{add-one}
 use native.Mathlib.Omega.{arith}
 use borrow.Author.Tests.{leb-true, eq-eqb, ne_eqb}
 use Rattle.lists.proofs.Bools.{and_l, and_r, Flag, on, off, flag}
 use Rattle.recording.specs.Words.{separator}
 use Rattle.recording.specs.Values.{is_digit, is_bit, is_definite, bit_of, bit_number}
-use Rattle.recording.specs.Reading.{max_time}
 use Rattle.vcd_words.specs.declared.Number.{Number}
 use Rattle.vcd_words.specs.declared.Partial.{Partial}
-use Rattle.vcd_words.specs.Partial.{run, between, spell_high, spell_low, number_with, not_number, with_digit, more_digits, with_bit}
+use Rattle.vcd_words.specs.Partial.{run, between, spell_high, spell_low, number_with, with_digit, more_digits, with_bit}
 use Rattle.vcd_words.specs.Partial.{more_bits, begun_with, counted_of, partial_with, extended_by}
 
 pub digit_range : (b : ℕ) → is_digit b ≡ true → (48 ≤ b) × (b ≤ 57)
@@ -35,31 +35,24 @@ between_more t i end h k =
 pub between_end : (t : List ℕ) (i end : ℕ) → end ≤ i → between t i end ≡ []
 between_end t i end h = let e : end - i ≡ 0 = omega arith in rw e
 
-module _ (t : List ℕ) (i end : ℕ) (h : i < end) (k : end ≤ length t) (n : Number) where
-  pub digits_more :
-      (d value : ℕ) (over : Bool) → is_digit (get_or t i 0) ≡ true → d ≡ get_or t i 0 - 48 →
-      over ≡ (n.over || ltb max_time (10 * n.value + d)) → value ≡ min max_time (10 * n.value + d) →
-      more_digits (number_with n.whole n.known over value) (between t (i + 1) end) ≡ more_digits n (between t i end)
-  unfolding with_digit
-  digits_more d value over e ed eo ev =
-      sym (ap (more_digits n) (between_more t i end h k) ∙ rw (e, eo, ev, ed))
+pub drop_more : (t : List ℕ) (i : ℕ) → i < length t → drop i t ≡ get_or t i 0 ∷ drop (i + 1) t
+drop_more t i h = rw (drop-cons t i 0 h, add-one)
 
-  pub digits_stop : is_digit (get_or t i 0) ≡ false → not_number ≡ more_digits n (between t i end)
-  digits_stop e = sym (ap (more_digits n) (between_more t i end h k) ∙ rw e)
+module _ (t : List ℕ) (i : ℕ) (h : i < length t) (n : Number) where
+  pub digits_more :
+      is_digit (get_or t i 0) ≡ true → more_digits (with_digit n (get_or t i 0)) (drop (i + 1) t) ≡ more_digits n (drop i t)
+  digits_more e = sym (ap (more_digits n) (drop_more t i h) ∙ rw e)
 
   pub bits_more :
       (value : ℕ) (known : Bool) → is_bit (get_or t i 0) ≡ true → known ≡ (n.known && is_definite (bit_of (get_or t i 0))) →
       value ≡ min 65535 (2 * n.value + bit_number (bit_of (get_or t i 0))) →
-      more_bits (number_with n.whole known n.over value) (between t (i + 1) end) ≡ more_bits n (between t i end)
+      more_bits (number_with n.whole known n.over value) (drop (i + 1) t) ≡ more_bits n (drop i t)
   unfolding with_bit
-  bits_more value known e ek ev = sym (ap (more_bits n) (between_more t i end h k) ∙ rw (e, ek, ev))
-
-  pub bits_stop : is_bit (get_or t i 0) ≡ false → not_number ≡ more_bits n (between t i end)
-  bits_stop e = sym (ap (more_bits n) (between_more t i end h k) ∙ rw e)
+  bits_more value known e ek ev = sym (ap (more_bits n) (drop_more t i h) ∙ rw (e, ek, ev))
 
 -- ---- a run of bytes
 
-run_prefix : (bs : List ℕ) → take (length (run bs)) bs ≡ run bs
+pub run_prefix : (bs : List ℕ) → take (length (run bs)) bs ≡ run bs
 run_prefix [] = refl
 run_prefix (b ∷ bs) = go (flag (separator b)) (run_prefix bs)
   where
@@ -70,40 +63,46 @@ run_prefix (b ∷ bs) = go (flag (separator b)) (run_prefix bs)
 run_short : (bs : List ℕ) → length (run bs) ≤ length bs
 run_short bs = omega (arith, ap length (run_prefix bs), length-take (length (run bs)) bs)
 
-module _ (t : List ℕ) (from end : ℕ) (e : end ≡ from + length (run (drop from t))) where
-  pub scan_none : (p : Partial) → end ≤ from → p ≡ extended_by p (run (drop from t))
-  unfolding extended_by
-  scan_none p h = go (run (drop from t)) (omega arith)
-    where
-      go : (w : List ℕ) → length w ≡ 0 → p ≡ extended_by p w
-      go [] k = refl
-      go (b ∷ w) k = absurd (omega arith)
-
 module _ (t : List ℕ) (from end : ℕ) (e : end ≡ from + length (run (drop from t))) (h : from < end) where
   pub run_inside : end ≤ length t
   run_inside = omega (arith, run_short (drop from t), length-drop from t)
 
-  run_between : between t from end ≡ run (drop from t)
-  run_between = let k : end - from ≡ length (run (drop from t)) = omega arith in rw k (run_prefix (drop from t))
+-- ---- bytes added to a word
 
-  run_parts : run (drop from t) ≡ get_or t from 0 ∷ between t (from + 1) end
-  run_parts = sym run_between ∙ between_more t from end h run_inside
+pub extended_none : (p : Partial) (bs : List ℕ) → length bs < 1 → p ≡ extended_by p bs
+unfolding extended_by
+extended_none p [] h = refl
+extended_none p (b ∷ bs) h = absurd (omega arith)
 
-  run_length : end - from ≡ suc (length (between t (from + 1) end))
-  run_length = omega (arith, ap length run_parts)
-
-  pub scan_first :
-      (p : Partial) → p.length ≡ 0 →
-      partial_with (min 256 (p.length + (end - from))) (get_or t from 0) (spell_high p.high p.low (run (drop from t)))
-      (spell_low p.low (run (drop from t))) (counted_of (get_or t from 0) (begun_with (get_or t from 0)) (between t (from + 1) end))
-      ≡ extended_by p (run (drop from t))
+module _ (p : Partial) (bs : List ℕ) (h : 1 ≤ length bs) where
+  pub extended_first :
+      p.length ≡ 0 →
+      partial_with (min 256 (p.length + length bs)) (get_or bs 0 0) (spell_high p.high p.low bs) (spell_low p.low bs)
+      (counted_of (get_or bs 0 0) (begun_with (get_or bs 0 0)) (take (length bs - 1) (drop 1 bs))) ≡
+      extended_by p bs
   unfolding extended_by
-  scan_first p k = rw (run_length, run_parts, eq-eqb p.length 0 k)
+  extended_first e = go bs h
+    where
+      go : (w : List ℕ) → 1 ≤ length w →
+          partial_with (min 256 (p.length + length w)) (get_or w 0 0) (spell_high p.high p.low w) (spell_low p.low w)
+          (counted_of (get_or w 0 0) (begun_with (get_or w 0 0)) (take (length w - 1) (drop 1 w))) ≡
+          extended_by p w
+      go [] k = absurd (omega arith)
+      go (b ∷ w) k =
+          let n : length (b ∷ w) - 1 ≡ length w = omega arith in
+          rw (n, take-length w, eq-eqb p.length 0 e)
 
-  pub scan_more :
-      (p : Partial) → (p.length ≡ 0 → ⊥) →
-      partial_with (min 256 (p.length + (end - from))) p.first (spell_high p.high p.low (run (drop from t)))
-      (spell_low p.low (run (drop from t))) (counted_of p.first p.number (between t from end))
-      ≡ extended_by p (run (drop from t))
+  pub extended_more :
+      (p.length ≡ 0 → ⊥) →
+      partial_with (min 256 (p.length + length bs)) p.first (spell_high p.high p.low bs) (spell_low p.low bs)
+      (counted_of p.first p.number bs) ≡
+      extended_by p bs
   unfolding extended_by
-  scan_more p k = rw (run_between, run_length, run_parts, ne_eqb p.length 0 k)
+  extended_more e = go bs h
+    where
+      go : (w : List ℕ) → 1 ≤ length w →
+          partial_with (min 256 (p.length + length w)) p.first (spell_high p.high p.low w) (spell_low p.low w)
+          (counted_of p.first p.number w) ≡
+          extended_by p w
+      go [] k = absurd (omega arith)
+      go (b ∷ w) k = rw (ne_eqb p.length 0 e)

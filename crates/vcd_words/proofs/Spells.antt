@@ -1,15 +1,15 @@
 -- A word is told by its length and the numbers that its last sixteen bytes spell, if it has no more. Assumes nothing.
 --   same_spelling    two words of bytes, one of at most sixteen, are the same exactly if these are
---   keyword_small, keyword_short    every keyword is such a word
+--   keyword_fits     every keyword is such a word
 use Prim.Native.Nat.{ℕ, suc, ◌+◌, ◌*◌, ◌/◌, ◌%◌, ◌^◌, ◌<◌, ◌≤◌, min}
 use mathlib.Core.Path.{◌≡◌, refl, sym, ap, ap₂, ◌∙◌}
 use mathlib.Core.List.{List, [], ◌∷◌}
-use mathlib.Core.Bool.{Bool, true, false, true≢false}
+use mathlib.Core.Bool.{Bool, true, ◌&&◌, true≢false}
 use lib.ListN.{length}
 use lib.Dec.{ltb, eqb}
 use native.Mathlib.Nat.{pow-succ', mul-le-mul_right, pow-le-pow_right, le_trans, mul_assoc, mod-eq_of_lt, div-lt_iff_lt-mul, div-add-mod}
 use native.Mathlib.Omega.{arith}
-use borrow.Author.Tests.{ltb-true, eqb-true, eqb-false, eq-eqb}
+use borrow.Author.Tests.{ltb-true, eqb-true, eq-eqb}
 use Rattle.lists.proofs.Bools.{and_l, and_r, and_in, Flag, on, off, flag, refuted}
 use Rattle.recording.specs.Words.{bytes_of, same_bytes, all}
 use Rattle.recording.specs.Values.{numeral}
@@ -115,68 +115,49 @@ same_eq [] (b ∷ k) e = absurd (true≢false (sym e))
 same_eq (a ∷ w) [] e = absurd (true≢false (sym e))
 same_eq (a ∷ w) (b ∷ k) e = ap₂ ◌∷◌ (eqb-true a b (and_l (eqb a b) (same_bytes w k) e)) (same_eq w k (and_r (eqb a b) (same_bytes w k) e))
 
-module _ (w k : List ℕ) where
-  -- what tells a word from another shows in the length or a number
-  pub other_length : (min 256 (length w) ≡ length k → ⊥) → length k ≤ 16 → same_bytes w k ≡ false
-  other_length h short = refuted (same_bytes w k) (λ e. h (other (ap length (same_eq w k e))))
-    where
-      other : length w ≡ length k → min 256 (length w) ≡ length k
-      other e = omega arith
+-- what tells a word from another shows in the length or a number
+pub same_spelling :
+    (w k : List ℕ) → small w ≡ true → small k ≡ true → length k ≤ 16 →
+    same_bytes w k ≡
+    (eqb (min 256 (length w)) (length k) && (eqb (spell_high 0 0 w) (spell_high 0 0 k) && eqb (spell_low 0 w) (spell_low 0 k)))
+same_spelling w k sw sk short = go (flag (told w))
+  where
+    told : List ℕ → Bool
+    told v = eqb (min 256 (length v)) (length k) && (eqb (spell_high 0 0 v) (spell_high 0 0 k) && eqb (spell_low 0 v) (spell_low 0 k))
 
-  pub other_low : (spell_low 0 w ≡ spell_low 0 k → ⊥) → same_bytes w k ≡ false
-  other_low h = refuted (same_bytes w k) (λ e. h (ap (spell_low 0) (same_eq w k e)))
+    itself : told k ≡ true
+    itself =
+        and_in (eq-eqb (min 256 (length k)) (length k) (omega arith))
+        (and_in (eq-eqb (spell_high 0 0 k) (spell_high 0 0 k) refl) (eq-eqb (spell_low 0 k) (spell_low 0 k) refl))
 
-  pub same_spelling :
-      small w ≡ true → small k ≡ true → length k ≤ 16 → min 256 (length w) ≡ length k → spell_low 0 w ≡ spell_low 0 k →
-      same_bytes w k ≡ eqb (spell_high 0 0 w) (spell_high 0 0 k)
-  same_spelling sw sk short lengths lows = go (flag (eqb (spell_high 0 0 w) (spell_high 0 0 k)))
-    where
-      go : Flag (eqb (spell_high 0 0 w) (spell_high 0 0 k)) → same_bytes w k ≡ eqb (spell_high 0 0 w) (spell_high 0 0 k)
-      go (on e) =
-          rw e
-          (ap (λ (x : List ℕ). same_bytes x k) (spelling_unique w k sw sk short (omega arith) lows (eqb-true _ _ e)) ∙ same_refl k)
-      go (off e) = rw e (refuted (same_bytes w k) (λ f. eqb-false _ _ e (ap (spell_high 0 0) (same_eq w k f))))
+    go : Flag (told w) → same_bytes w k ≡ told w
+    go (on e) =
+        let rest = and_r (eqb (min 256 (length w)) (length k)) _ e in
+        let lengths : min 256 (length w) ≡ length k = eqb-true _ _ (and_l _ (eqb (spell_high 0 0 w) (spell_high 0 0 k) && eqb (spell_low 0 w) (spell_low 0 k)) e) in
+        let highs = eqb-true _ _ (and_l (eqb (spell_high 0 0 w) (spell_high 0 0 k)) _ rest) in
+        let lows = eqb-true _ _ (and_r (eqb (spell_high 0 0 w) (spell_high 0 0 k)) _ rest) in
+        ap (λ (x : List ℕ). same_bytes x k) (spelling_unique w k sw sk short (omega arith) lows highs) ∙ same_refl k ∙ sym e
+    go (off e) = refuted (same_bytes w k) (λ f. true≢false (sym itself ∙ ap told (sym (same_eq w k f)) ∙ e)) ∙ sym e
 
 -- ---- keywords
 
-pub keyword_small : (k : Keyword) → small (bytes_of (text_of k)) ≡ true
-keyword_small Date = refl
-keyword_small Version = refl
-keyword_small Comment = refl
-keyword_small Timescale = refl
-keyword_small Scope = refl
-keyword_small Upscope = refl
-keyword_small Var = refl
-keyword_small EndDefinitions = refl
-keyword_small End = refl
-keyword_small DumpVars = refl
-keyword_small DumpAll = refl
-keyword_small DumpOn = refl
-keyword_small DumpOff = refl
-keyword_small Wire = refl
-keyword_small Stb = refl
-keyword_small Cmd = refl
-keyword_small Core = refl
-keyword_small Arg = refl
-keyword_small Prio = refl
-
-pub keyword_short : (k : Keyword) → length (bytes_of (text_of k)) ≤ 16
-keyword_short Date = omega arith
-keyword_short Version = omega arith
-keyword_short Comment = omega arith
-keyword_short Timescale = omega arith
-keyword_short Scope = omega arith
-keyword_short Upscope = omega arith
-keyword_short Var = omega arith
-keyword_short EndDefinitions = omega arith
-keyword_short End = omega arith
-keyword_short DumpVars = omega arith
-keyword_short DumpAll = omega arith
-keyword_short DumpOn = omega arith
-keyword_short DumpOff = omega arith
-keyword_short Wire = omega arith
-keyword_short Stb = omega arith
-keyword_short Cmd = omega arith
-keyword_short Core = omega arith
-keyword_short Arg = omega arith
-keyword_short Prio = omega arith
+pub keyword_fits : (k : Keyword) → (small (bytes_of (text_of k)) ≡ true) × (length (bytes_of (text_of k)) ≤ 16)
+keyword_fits Date = (refl, omega arith)
+keyword_fits Version = (refl, omega arith)
+keyword_fits Comment = (refl, omega arith)
+keyword_fits Timescale = (refl, omega arith)
+keyword_fits Scope = (refl, omega arith)
+keyword_fits Upscope = (refl, omega arith)
+keyword_fits Var = (refl, omega arith)
+keyword_fits EndDefinitions = (refl, omega arith)
+keyword_fits End = (refl, omega arith)
+keyword_fits DumpVars = (refl, omega arith)
+keyword_fits DumpAll = (refl, omega arith)
+keyword_fits DumpOn = (refl, omega arith)
+keyword_fits DumpOff = (refl, omega arith)
+keyword_fits Wire = (refl, omega arith)
+keyword_fits Stb = (refl, omega arith)
+keyword_fits Cmd = (refl, omega arith)
+keyword_fits Core = (refl, omega arith)
+keyword_fits Arg = (refl, omega arith)
+keyword_fits Prio = (refl, omega arith)

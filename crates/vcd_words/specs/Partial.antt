@@ -4,18 +4,17 @@
 --   extended_by p bs   what is kept when the bytes bs are added to a word of which p is kept
 use Rattle.std.specs.Prelude.{ℕ, ◌+◌, ◌*◌, ◌-◌, ◌/◌, ◌%◌, ◌<◌, ◌≤◌, min, ◌≡◌, List, [], ◌∷◌, Bool, true, false, not, ◌&&◌, ◌||◌, cond, length, take, drop, ltb, eqb}
 use Prim.Native.String.{String}
-use Rattle.std.proofs.Math.Option.{Option, none, some}
 use Rattle.recording.specs.Words.{separator, all}
 use Rattle.recording.specs.Values.{numeral, is_digit, digit_of, is_bit, bit_of, is_definite, bit_number, value_of}
+use Rattle.recording.specs.Stamps.{not_grammar, bad_variable, not_known, not_rising, too_many}
 use Rattle.recording.specs.Reading.{max_time}
-use Rattle.recording.specs.declared.Signal.{Signal}
 use Rattle.recording.specs.declared.Value.{Value}
 use Rattle.recording.specs.declared.Vector.{Vector}
 use Rattle.vcd_words.specs.declared.Number.{Number}
-use Rattle.vcd_words.specs.declared.Named.{Named}
-use Rattle.vcd_words.specs.declared.Named.TheVariants.{Of, Nothing}
 use Rattle.vcd_words.specs.declared.Partial.{Partial}
 use Rattle.vcd_words.specs.declared.Spelling.{Spelling}
+use Rattle.vcd_words.specs.declared.Misreading.{Misreading}
+use Rattle.vcd_words.specs.declared.Misreading.TheVariants.{NotGrammar, BadVariable, NotKnown, NotRising, TooMany}
 use Rattle.vcd_words.specs.declared.Keyword.{Keyword}
 use Rattle.vcd_words.specs.declared.Keyword.TheVariants.{Date, Version, Comment, Timescale, Scope, Upscope, Var, EndDefinitions, End}
 use Rattle.vcd_words.specs.declared.Keyword.TheVariants.{DumpVars, DumpAll, DumpOn, DumpOff, Wire, Stb, Cmd, Core, Arg, Prio}
@@ -155,8 +154,11 @@ text_of Core = "core"
 text_of Arg = "arg"
 text_of Prio = "prio"
 
--- ---- variables
+-- ---- faults
 
-abbrev pub option_of : Named → Option Signal
-option_of (Of s) = some s
-option_of Nothing = none
+abbrev pub number_of : Misreading → ℕ
+number_of NotGrammar = not_grammar
+number_of BadVariable = bad_variable
+number_of NotKnown = not_known
+number_of NotRising = not_rising
+number_of TooMany = too_many

@@ -3,14 +3,11 @@
 #![tactic(auto)]
 
 mod declarations;
-mod flags;
 mod marks;
 pub mod readers;
 pub mod scanning;
 pub mod stamps;
 pub mod words;
-
-use recording::Signal;
 
 // The number that a word spells after its first byte, as far as it is read: decimal after # or a digit, binary after b or B.
 // whole: every byte is a digit. known: no bit is x or z. over: the number is above 2^64 - 1, and value is held there; a binary one is
@@ -34,10 +31,9 @@ pub struct Partial {
     pub number: Number,
 }
 
-// What is kept of the last sixteen bytes, and where the bytes end.
+// What is kept of the last sixteen bytes.
 #[derive(Clone, Copy)]
 pub struct Spelled {
-    pub end: usize,
     pub high: u64,
     pub low: u64,
 }
@@ -74,16 +70,24 @@ pub enum Keyword {
 }
 
 // How a keyword of at most sixteen bytes is kept.
-#[derive(Clone, Copy)]
+#[derive(Clone, Copy, PartialEq, Eq)]
 pub struct Spelling {
     pub length: u16,
     pub high: u64,
     pub low: u64,
 }
 
-// The variable of a name or of a code, if there is one.
+// What is wrong with a text, by the number that a report gives.
 #[derive(Clone, Copy)]
-pub enum Named {
-    Of(Signal),
-    Nothing,
+pub enum Misreading {
+    // text against the grammar
+    NotGrammar = 11,
+    // a variable missing, repeated, of another name or width, or a code used twice
+    BadVariable = 12,
+    // an x or z where a value is needed
+    NotKnown = 13,
+    // time not rising
+    NotRising = 14,
+    // a command after the 65,535th
+    TooMany = 19,
 }

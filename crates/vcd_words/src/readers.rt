@@ -1,12 +1,13 @@
 // The reader's records made. Every literal of one in code stands here, as in recording/specs/Records.antt.
 ghost use Rattle.std.specs.Prelude.{◌≡◌, true};
 ghost use Rattle.recording.specs.Values.{value as value_with};
-ghost use Rattle.vcd_words.specs.Partial.{vector_with};
-ghost use Rattle.recording.specs.Records.{start as start_of, variable_of, with_variable_of, at as at_place, with_width, with_code, with_vector};
-ghost use Rattle.recording.specs.Records.{with_value, declaring as declaring_of, with_time, with_up, with_taken, refused as refused_of};
+ghost use Rattle.vcd_words.specs.Partial.{vector_with, number_of};
+ghost use Rattle.recording.specs.Records.{start as start_of, variable_of, at as at_place, with_pending, with_width, with_code, with_vector};
+ghost use Rattle.recording.specs.Records.{with_variable, with_value, declaring as declaring_of, with_stamp, with_time, with_up, with_taken, refused as refused_of};
 ghost use Rattle.recording.specs.Records.{fault_with, strobe_with, read_with, only as only_of};
 ghost use Rattle.recording.specs.Records.{variable_with, variables_with, pending_with, stamp_with, reader_with};
 
+use crate::Misreading;
 use recording::{
     Fault, Pending, Place, Read, Reader, Signal, Stamp, Strobe, Value, Variable, Variables, Vector,
 };
@@ -23,27 +24,19 @@ pub fn vector_with(length: u8, v: Value) -> Vector
     Vector { length, value: v }
 }
 
+// A variable that isn't declared.
+fn undeclared(known: bool) -> Variable
+    ensures { result ≡ variable_with 0 0 (value_with known 0) }
+{
+    variable_with(0, 0, value_with(known, 0))
+}
+
 // None is declared; stb is 0, and the others are x.
 fn none_declared() -> Variables
     ensures { result ≡ start_of.variables }
 {
-    let x = Variable {
-        code: 0,
-        width: 0,
-        value: Value {
-            known: false,
-            number: 0,
-        },
-    };
-    let mut stb = x;
-    stb.value.known = true;
-    Variables {
-        stb,
-        cmd: x,
-        core: x,
-        arg: x,
-        prio: x,
-    }
+    let x = undeclared(false);
+    variables_with(undeclared(true), x, x, x, x)
 }
 
 // Before the first word.
@@ -52,72 +45,48 @@ pub fn start() -> Reader
 {
     Reader {
         place: Place::Definition,
-        pending: Pending {
-            width: 0,
-            code: 0,
-            vector: Vector {
-                length: 0,
-                value: Value {
-                    known: false,
-                    number: 0,
-                },
-            },
-        },
+        pending: pending_with(0, 0, vector_with(0, value_with(false, 0))),
         variables: none_declared(),
-        stamp: Stamp {
-            opened: false,
-            time: 0,
-            up: false,
-        },
+        stamp: stamp_with(false, 0, false),
         taken: 0,
-        fault: Fault {
-            number: 0,
-            offset: 0,
-        },
+        fault: fault_with(0, 0),
     }
 }
 
 pub fn at(r: Reader, place: Place) -> Reader
     ensures { result ≡ at_place place r }
 {
-    let pending = r.pending;
-    let variables = r.variables;
-    let stamp = r.stamp;
-    let fault = r.fault;
-    Reader {
-        place,
-        pending,
-        variables,
-        stamp,
-        taken: r.taken,
-        fault,
-    }
+    Reader { place, ..r }
+}
+
+fn with_pending(r: Reader, pending: Pending) -> Reader
+    ensures { result ≡ with_pending pending r }
+{
+    Reader { pending, ..r }
 }
 
 pub fn with_width(r: Reader, width: u8) -> Reader
     ensures { result ≡ with_width width r }
 {
-    let mut next = r;
-    next.pending.width = width;
-    next
+    with_pending(r, Pending { width, ..r.pending })
 }
 
 pub fn with_code(r: Reader, code: u32) -> Reader
     ensures { result ≡ with_code code r }
 {
-    let mut next = r;
-    next.pending.code = code;
-    next
+    with_pending(r, Pending { code, ..r.pending })
 }
 
-pub fn with_vector(r: Reader, v: Vector) -> Reader
-    ensures { result ≡ with_vector v r }
+pub fn with_vector(r: Reader, vector: Vector) -> Reader
+    ensures { result ≡ with_vector vector r }
 {
-    let mut pending = r.pending;
-    pending.vector = v;
-    let mut next = r;
-    next.pending = pending;
-    next
+    with_pending(
+        r,
+        Pending {
+            vector,
+            ..r.pending
+        },
+    )
 }
 
 pub fn variable(vs: Variables, s: Signal) -> Variable
@@ -132,90 +101,79 @@ pub fn variable(vs: Variables, s: Signal) -> Variable
     }
 }
 
-fn with_variable(vs: Variables, s: Signal, v: Variable) -> Variables
-    ensures { result ≡ with_variable_of vs s v }
-{
-    let mut next = vs;
-    match s {
-        Signal::Stb => {
-            next.stb = v;
-            next
-        }
-        Signal::Cmd => {
-            next.cmd = v;
-            next
-        }
-        Signal::Core => {
-            next.core = v;
-            next
-        }
-        Signal::Arg => {
-            next.arg = v;
-            next
-        }
-        Signal::Prio => {
-            next.prio = v;
-            next
-        }
-    }
-}
-
-pub fn with_value(r: Reader, s: Signal, v: Value) -> Reader
-    ensures { result ≡ with_value s v r }
+fn with_variable(r: Reader, s: Signal, v: Variable) -> Reader
+    ensures { result ≡ with_variable s v r }
 {
     let vs = r.variables;
-    let mut given = variable(vs, s);
-    given.value = v;
-    let mut next = r;
-    next.variables = with_variable(vs, s, given);
-    next
+    let variables = match s {
+        Signal::Stb => Variables { stb: v, ..vs },
+        Signal::Cmd => Variables { cmd: v, ..vs },
+        Signal::Core => Variables { core: v, ..vs },
+        Signal::Arg => Variables { arg: v, ..vs },
+        Signal::Prio => Variables { prio: v, ..vs },
+    };
+    Reader { variables, ..r }
+}
+
+pub fn with_value(r: Reader, s: Signal, value: Value) -> Reader
+    ensures { result ≡ with_value s value r }
+{
+    let v = variable(r.variables, s);
+    with_variable(r, s, Variable { value, ..v })
 }
 
 // The width and the code that were read become those of a variable.
 pub fn declaring(r: Reader, s: Signal) -> Reader
     ensures { result ≡ declaring_of s r }
 {
-    let vs = r.variables;
-    let mut given = variable(vs, s);
-    given.code = r.pending.code;
-    given.width = r.pending.width;
-    let mut next = r;
-    next.variables = with_variable(vs, s, given);
-    next
+    let Pending { width, code, .. } = r.pending;
+    let v = variable(r.variables, s);
+    with_variable(r, s, Variable { code, width, ..v })
+}
+
+fn with_stamp(r: Reader, stamp: Stamp) -> Reader
+    ensures { result ≡ with_stamp stamp r }
+{
+    Reader { stamp, ..r }
 }
 
 pub fn with_time(r: Reader, time: u64) -> Reader
     ensures { result ≡ with_time time r }
 {
-    let mut next = r;
-    next.stamp.opened = true;
-    next.stamp.time = time;
-    next
+    let opened = true;
+    with_stamp(
+        r,
+        Stamp {
+            opened,
+            time,
+            ..r.stamp
+        },
+    )
 }
 
 pub fn with_up(r: Reader, up: bool) -> Reader
     ensures { result ≡ with_up up r }
 {
-    let mut next = r;
-    next.stamp.up = up;
-    next
+    with_stamp(r, Stamp { up, ..r.stamp })
 }
 
 pub fn with_taken(r: Reader, taken: u16) -> Reader
     ensures { result ≡ with_taken taken r }
 {
-    let mut next = r;
-    next.taken = taken;
-    next
+    Reader { taken, ..r }
 }
 
 pub fn refused(r: Reader, number: u8, offset: u64) -> Reader
     ensures { result ≡ refused_of number offset r }
 {
-    let mut next = r;
-    next.fault.number = number;
-    next.fault.offset = offset;
-    next
+    let fault = fault_with(number, offset);
+    Reader { fault, ..r }
+}
+
+pub(crate) fn misread(r: Reader, why: Misreading, offset: u64) -> Reader
+    ensures { result ≡ refused_of (number_of why) offset r }
+{
+    refused(r, why as u8, offset)
 }
 
 pub fn strobe_with(number: u16, target: u16, level: u16) -> Strobe

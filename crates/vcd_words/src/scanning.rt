@@ -3,18 +3,13 @@ ghost use Rattle.std.specs.Prelude.{◌+◌, ◌*◌, ◌≤◌, min, ◌≡◌,
 ghost use Rattle.recording.specs.Words.{separator};
 ghost use Rattle.recording.specs.Values.{is_digit, is_bit, is_definite, bit_of, bit_number};
 ghost use Rattle.recording.specs.Reading.{max_time};
-ghost use Rattle.vcd_words.specs.Partial.{run, between, spell_high, spell_low, number_with, not_number, more_digits, more_bits, begun_with};
+ghost use Rattle.vcd_words.specs.Partial.{run, spell_high, spell_low, number_with, not_number, with_digit, more_digits, more_bits, begun_with};
 ghost use Rattle.vcd_words.specs.Partial.{counted_of, partial_with, empty, extended_by};
 
 use crate::{Number, Partial, Scanned, Spelled};
 
 // 2^56: what is kept of a number of eight bytes when a byte is added.
 const SEVEN: u64 = 72057594037927936;
-
-// The greatest time, 2^64 - 1, and a tenth of it.
-const MAX_TIME: u64 = 18446744073709551615;
-
-const TENTH: u64 = 1844674407370955161;
 
 // Nothing is read of a word yet.
 pub fn nothing() -> Partial
@@ -23,65 +18,52 @@ pub fn nothing() -> Partial
     partial_with(0, 0, 0, 0, not_number())
 }
 
+fn number_with(whole: bool, known: bool, over: bool, value: u64) -> Number
+    ensures { result ≡ number_with whole known over value }
+{
+    Number {
+        whole,
+        known,
+        over,
+        value,
+    }
+}
+
 fn not_number() -> Number
     ensures { result ≡ not_number }
 {
-    Number {
-        whole: false,
-        known: false,
-        over: false,
-        value: 0,
-    }
+    number_with(false, false, false, 0)
 }
 
 // Most bytes of a text are above the space, the highest separator.
 pub fn is_separator(b: u8) -> bool
     ensures { result ≡ separator b }
 {
-    if 32 < b {
-        return false;
-    }
-    if b == 32 {
-        return true;
-    }
-    if b == 9 {
-        return true;
-    }
-    if b == 13 {
-        return true;
-    }
-    b == 10
+    b <= b' ' && matches!(b, b' ' | b'\t' | b'\r' | b'\n')
 }
 
-// The bytes from an offset on, up to a separator or the slice's end: where they end, and what is kept of the last sixteen.
-fn spell(text: &[u8], from: usize, high: u64, low: u64) -> Spelled
-    ensures { (result.end ≡ from + length (run (drop from text.now))) ×
-        (result.high ≡ spell_high high low (run (drop from text.now))) ×
-        (result.low ≡ spell_low low (run (drop from text.now))) }
+// The bytes up to a separator, or all.
+fn run(text: &[u8]) -> &[u8]
+    ensures { result.now ≡ run text.now }
 {
-    let mut h = high;
-    let mut l = low;
-    let mut i = from;
-    while i < text.len() {
-        let b = text[i];
-        if is_separator(b) {
-            break;
-        }
-        h = h % SEVEN * 256 + l / SEVEN;
-        l = l % SEVEN * 256 + wide(b);
-        i += 1;
-    }
-    Spelled {
-        end: i,
-        high: h,
-        low: l,
-    }
+    let end = text
+        .iter()
+        .position(|b| is_separator(*b))
+        .unwrap_or(text.len());
+    &text[..end]
 }
 
-fn wide(b: u8) -> u64
-    ensures { result ≡ b }
+// What is kept of the last sixteen bytes, after these more: two numbers of eight.
+fn spell(word: &[u8], high: u64, low: u64) -> Spelled
+    ensures { (result.high ≡ spell_high high low word.now) × (result.low ≡ spell_low low word.now) }
 {
-    b as u64
+    let mut high = high;
+    let mut low = low;
+    for b in word {
+        high = high % SEVEN * 256 + low / SEVEN;
+        low = low % SEVEN * 256 + u64::from(*b);
+    }
+    Spelled { high, low }
 }
 
 // ---- decimal numbers
@@ -89,72 +71,35 @@ fn wide(b: u8) -> u64
 pub fn is_digit(b: u8) -> bool
     ensures { result ≡ is_digit b }
 {
-    if b < 48 {
-        return false;
-    }
-    b <= 57
+    b.is_ascii_digit()
 }
 
-// Whether a digit more takes a number past 2^64 - 1, which is ten times TENTH and 5.
-fn passes(value: u64, d: u64) -> bool
-    requires { d ≤ 9 }
-    ensures { result ≡ ltb max_time (10 * value + d) }
+// A digit more, of a number that is held at 2^64 - 1.
+#[tactic(auto, unfolding(crate::specs::Partial::with_digit))]
+fn with_digit(n: Number, b: u8) -> Number
+    requires { is_digit b ≡ true }
+    ensures { result ≡ with_digit n b }
 {
-    if value < TENTH {
-        return false;
+    let greatest = u128::from(u64::MAX);
+    let sum = 10 * u128::from(n.value) + u128::from(b - b'0');
+    Number {
+        over: n.over || greatest < sum,
+        value: sum.min(greatest) as u64,
+        ..n
     }
-    if TENTH < value {
-        return true;
-    }
-    if d < 6 {
-        return false;
-    }
-    true
 }
 
-fn over_by(over: bool, value: u64, d: u64) -> bool
-    requires { d ≤ 9 }
-    ensures { result ≡ (over || ltb max_time (10 * value + d)) }
+fn digits(bytes: &[u8], n: Number) -> Number
+    ensures { result ≡ more_digits n bytes.now }
 {
-    if over {
-        return true;
-    }
-    passes(value, d)
-}
-
-fn with_digit(value: u64, d: u64) -> u64
-    requires { d ≤ 9 }
-    ensures { result ≡ min max_time (10 * value + d) }
-{
-    if passes(value, d) {
-        return MAX_TIME;
-    }
-    10 * value + d
-}
-
-fn digits(text: &[u8], from: usize, end: usize, n: Number) -> Number
-    requires { end ≤ length text.now }
-    ensures { result ≡ more_digits n (between text.now from end) }
-{
-    let mut value = n.value;
-    let mut over = n.over;
-    let mut i = from;
-    while i < end {
-        let b = text[i];
-        if !is_digit(b) {
+    let mut sum = n;
+    for b in bytes {
+        if !is_digit(*b) {
             return not_number();
         }
-        let d = wide(b - 48);
-        over = over_by(over, value, d);
-        value = with_digit(value, d);
-        i += 1;
+        sum = with_digit(sum, *b);
     }
-    Number {
-        whole: n.whole,
-        known: n.known,
-        over,
-        value,
-    }
+    sum
 }
 
 // ---- vectors
@@ -162,146 +107,79 @@ fn digits(text: &[u8], from: usize, end: usize, n: Number) -> Number
 pub fn is_bit(b: u8) -> bool
     ensures { result ≡ is_bit b }
 {
-    if b == 48 {
-        return true;
-    }
-    if b == 49 {
-        return true;
-    }
-    if b == 120 {
-        return true;
-    }
-    if b == 88 {
-        return true;
-    }
-    if b == 122 {
-        return true;
-    }
-    b == 90
+    matches!(b, b'0' | b'1' | b'x' | b'X' | b'z' | b'Z')
 }
 
 pub fn still_known(known: bool, b: u8) -> bool
     ensures { result ≡ (known && is_definite (bit_of b)) }
 {
-    if !known {
-        return false;
-    }
-    if b == 48 {
-        return true;
-    }
-    b == 49
+    known && matches!(b, b'0' | b'1')
 }
 
 pub fn with_bit(value: u64, b: u8) -> u64
     ensures { result ≡ min 65535 (2 * value + bit_number (bit_of b)) }
 {
-    if 32767 < value {
-        return 65535;
-    }
-    if b == 49 {
-        return 2 * value + 1;
-    }
-    2 * value
+    let bit = u64::from(b == b'1');
+    value.saturating_mul(2).saturating_add(bit).min(65535)
 }
 
-fn bits(text: &[u8], from: usize, end: usize, n: Number) -> Number
-    requires { end ≤ length text.now }
-    ensures { result ≡ more_bits n (between text.now from end) }
+fn bits(bytes: &[u8], n: Number) -> Number
+    ensures { result ≡ more_bits n bytes.now }
 {
-    let mut value = n.value;
-    let mut known = n.known;
-    let mut i = from;
-    while i < end {
-        let b = text[i];
-        if !is_bit(b) {
+    let Number {
+        mut known,
+        mut value,
+        ..
+    } = n;
+    for b in bytes {
+        if !is_bit(*b) {
             return not_number();
         }
-        value = with_bit(value, b);
-        known = still_known(known, b);
-        i += 1;
+        value = with_bit(value, *b);
+        known = still_known(known, *b);
     }
-    Number {
-        whole: n.whole,
-        known,
-        over: n.over,
-        value,
-    }
+    number_with(n.whole, known, n.over, value)
 }
 
 // ---- a word
 
 // The number after the first byte.
+#[tactic(auto, unfolding(crate::specs::Partial::begun_with))]
 fn begun(b: u8) -> Number
     ensures { result ≡ begun_with b }
 {
-    if is_digit(b) {
-        return number_from(wide(b - 48));
-    }
-    number_from(0)
+    let value = if is_digit(b) { u64::from(b - b'0') } else { 0 };
+    number_with(true, true, false, value)
 }
 
-fn number_from(value: u64) -> Number
-    ensures { result ≡ number_with true true false value }
-{
-    Number {
-        whole: true,
-        known: true,
-        over: false,
-        value,
-    }
-}
-
-// The bytes from an offset up to another, added to a word that begins with a byte.
-fn counted(first: u8, text: &[u8], from: usize, end: usize, n: Number) -> Number
-    requires { end ≤ length text.now }
-    ensures { result ≡ counted_of first n (between text.now from end) }
+// Bytes added to a word that begins with a byte.
+#[tactic(auto, unfolding(crate::specs::Partial::counted_of))]
+fn counted(first: u8, bytes: &[u8], n: Number) -> Number
+    ensures { result ≡ counted_of first n bytes.now }
 {
     if !n.whole {
-        return n;
+        n
+    } else if is_binary(first) {
+        bits(bytes, n)
+    } else if first == b'#' || is_digit(first) {
+        digits(bytes, n)
+    } else {
+        n
     }
-    if is_binary(first) {
-        return bits(text, from, end, n);
-    }
-    if is_decimal(first) {
-        return digits(text, from, end, n);
-    }
-    n
 }
 
 // b or B.
 pub fn is_binary(first: u8) -> bool
     ensures { result ≡ (eqb first 98 || eqb first 66) }
 {
-    if first == 98 {
-        return true;
-    }
-    first == 66
-}
-
-// # or a digit.
-fn is_decimal(first: u8) -> bool
-    ensures { result ≡ (eqb first 35 || is_digit first) }
-{
-    if first == 35 {
-        return true;
-    }
-    is_digit(first)
+    matches!(first, b'b' | b'B')
 }
 
 // The length, held at 256.
 fn longer(length: u16, more: usize) -> u16
     ensures { result ≡ min 256 (length + more) }
 {
-    if 256 <= more {
-        return 256;
-    }
-    if 256 <= length {
-        return 256;
-    }
-    if 256 <= length + more as u16 {
-        return 256;
-    }
-    length + more as u16
+    usize::from(length).saturating_add(more).min(256) as u16
 }
 
 // The bytes of a word from an offset on, up to a separator or the slice's end, added to what is kept of the word.
@@ -309,24 +187,34 @@ pub fn scan(text: &[u8], from: usize, p: Partial) -> Scanned
     ensures { (result.end ≡ from + length (run (drop from text.now))) ×
         (result.partial ≡ extended_by p (run (drop from text.now))) }
 {
-    let s = spell(text, from, p.high, p.low);
-    let end = s.end;
-    if end <= from {
-        return Scanned { end, partial: p };
-    }
-    let length = longer(p.length, end - from);
-    if p.length == 0 {
-        let first = text[from];
-        let n = counted(first, text, from + 1, end, begun(first));
+    let Some(rest) = text.get(from..) else {
         return Scanned {
-            end,
-            partial: partial_with(length, first, s.high, s.low, n),
+            end: from,
+            partial: p,
         };
-    }
-    let n = counted(p.first, text, from, end, p.number);
+    };
+    let word = run(rest);
     Scanned {
-        end,
-        partial: partial_with(length, p.first, s.high, s.low, n),
+        end: from + word.len(),
+        partial: extended(p, word),
+    }
+}
+
+// What is kept of a word, with bytes added.
+fn extended(p: Partial, bytes: &[u8]) -> Partial
+    ensures { result ≡ extended_by p bytes.now }
+{
+    let [b, others @ ..] = bytes else {
+        return p;
+    };
+    let Spelled { high, low } = spell(bytes, p.high, p.low);
+    let length = longer(p.length, bytes.len());
+    if p.length == 0 {
+        let number = counted(*b, others, begun(*b));
+        partial_with(length, *b, high, low, number)
+    } else {
+        let number = counted(p.first, bytes, p.number);
+        partial_with(length, p.first, high, low, number)
     }
 }
 

@@ -7,7 +7,7 @@ ghost use Rattle.recording.specs.Reading.{open_stamp, read_time, is_dump, read_b
 ghost use Rattle.recording.specs.Declarations.{signal_of};
 ghost use Rattle.vcd_words.specs.Partial.{Keeps, text_of, bit_value};
 
-use crate::{Keyword, Named, Partial, declarations, flags, marks, readers, scanning, stamps};
+use crate::{Keyword, Misreading, Partial, declarations, marks, readers, scanning, stamps};
 use recording::{Place, Read, Reader, Signal, Value};
 
 // ---- definitions
@@ -17,141 +17,128 @@ fn expected(k: Keyword, next: Place, r: Reader, at: u64, p: Partial) -> Reader
     ensures { (w : List ℕ) → Keeps p w → result ≡ expected_of (text_of k) next r (word_with at w) }
 {
     if marks::says(p, k) {
-        return readers::at(r, next);
+        readers::at(r, next)
+    } else {
+        readers::misread(r, Misreading::NotGrammar, at)
     }
-    readers::refused(r, 11, at)
 }
 
 fn skipping(next: Place, r: Reader, p: Partial) -> Reader
     ensures { (at : ℕ) (w : List ℕ) → Keeps p w → result ≡ skipping_of next r (word_with at w) }
 {
     if marks::says(p, Keyword::End) {
-        return readers::at(r, next);
+        readers::at(r, next)
+    } else {
+        r
     }
-    r
 }
 
 fn is_skipped(p: Partial) -> bool
     ensures { (w : List ℕ) → Keeps p w → result ≡ is_skipped w }
 {
-    flags::any_of(
-        marks::says(p, Keyword::Date),
-        marks::says(p, Keyword::Version),
-        marks::says(p, Keyword::Comment),
-        marks::says(p, Keyword::Timescale),
-        marks::says(p, Keyword::Scope),
-        marks::says(p, Keyword::Upscope),
-    )
+    marks::says(p, Keyword::Date)
+        || marks::says(p, Keyword::Version)
+        || marks::says(p, Keyword::Comment)
+        || marks::says(p, Keyword::Timescale)
+        || marks::says(p, Keyword::Scope)
+        || marks::says(p, Keyword::Upscope)
 }
 
+#[tactic(auto, unfolding(recording::specs::Reading::read_definition))]
 fn definition(r: Reader, at: u64, p: Partial) -> Reader
     ensures { (w : List ℕ) → Keeps p w → result ≡ read_definition r (word_with at w) }
 {
     if is_skipped(p) {
-        return readers::at(r, Place::SkipDefinition);
+        readers::at(r, Place::SkipDefinition)
+    } else if marks::says(p, Keyword::Var) {
+        readers::at(r, Place::Wire)
+    } else if !marks::says(p, Keyword::EndDefinitions) {
+        readers::misread(r, Misreading::NotGrammar, at)
+    } else if declarations::all_declared(r) {
+        readers::at(r, Place::DefinitionsEnd)
+    } else {
+        readers::misread(r, Misreading::BadVariable, at)
     }
-    if marks::says(p, Keyword::Var) {
-        return readers::at(r, Place::Wire);
-    }
-    if !marks::says(p, Keyword::EndDefinitions) {
-        return readers::refused(r, 11, at);
-    }
-    if declarations::all_declared(r) {
-        return readers::at(r, Place::DefinitionsEnd);
-    }
-    readers::refused(r, 12, at)
 }
 
+#[tactic(auto, unfolding(recording::specs::Reading::read_width))]
 fn width(r: Reader, at: u64, p: Partial) -> Reader
     ensures { (w : List ℕ) → Keeps p w → result ≡ read_width r (word_with at w) }
 {
     if marks::is_decimal(p) {
-        return readers::at(readers::with_width(r, marks::width(p)), Place::Code);
+        readers::at(readers::with_width(r, marks::width(p)), Place::Code)
+    } else {
+        readers::misread(r, Misreading::NotGrammar, at)
     }
-    readers::refused(r, 11, at)
 }
 
+#[tactic(auto, using(crate::proofs::Telling::ends_word, crate::proofs::Codes::code_zero, crate::proofs::Codes::code_some), unfolding(recording::specs::Reading::read_code, recording::specs::Values::code_of))]
 fn code(r: Reader, at: u64, p: Partial) -> Reader
     ensures { (w : List ℕ) → Keeps p w → result ≡ read_code r (word_with at w) }
 {
-    let c = marks::code_of(p.length, p.low);
-    if c == 0 {
-        return readers::refused(r, 11, at);
+    match marks::code_of(p.length, p.low) {
+        0 => readers::misread(r, Misreading::NotGrammar, at),
+        code => readers::at(readers::with_code(r, code), Place::Name),
     }
-    readers::at(readers::with_code(r, c), Place::Name)
 }
 
+#[tactic(auto, unfolding(recording::specs::Reading::read_name))]
 fn name(r: Reader, at: u64, p: Partial) -> Reader
     ensures { (w : List ℕ) → Keeps p w → result ≡ read_name (signal_of w) r (word_with at w) }
 {
-    let n = declarations::named(p);
-    match n {
-        Named::Nothing => readers::refused(r, 12, at),
-        Named::Of(s) => {
-            if declarations::declares(r, s) {
-                return readers::at(readers::declaring(r, s), Place::VarEnd);
-            }
-            readers::refused(r, 12, at)
+    match declarations::named(p) {
+        Some(s) if declarations::declares(r, s) => {
+            readers::at(readers::declaring(r, s), Place::VarEnd)
         }
+        _ => readers::misread(r, Misreading::BadVariable, at),
     }
 }
 
 // ---- changes
 
 // The value of one bit.
+#[tactic(auto, unfolding(recording::specs::Values::value_of))]
 pub fn bit_value(b: u8) -> Value
     ensures { result ≡ bit_value b }
 {
-    if b == 48 {
-        return readers::value_with(true, 0);
+    match b {
+        b'0' => readers::value_with(true, 0),
+        b'1' => readers::value_with(true, 1),
+        _ => readers::value_with(false, 0),
     }
-    if b == 49 {
-        return readers::value_with(true, 1);
-    }
-    readers::value_with(false, 0)
 }
 
 fn is_scalar(r: Reader, p: Partial) -> bool
     ensures { (w : List ℕ) → Keeps p w → result ≡ is_scalar r w }
 {
-    if !scanning::is_bit(p.first) {
-        return false;
-    }
-    declarations::has_code(
-        r.variables.stb,
-        marks::code_of(marks::shorter(p.length), p.low),
-    )
+    let code = marks::code_of(p.length.saturating_sub(1), p.low);
+    scanning::is_bit(p.first) && declarations::has_code(r.variables.stb, code)
 }
 
+#[tactic(auto, unfolding(recording::specs::Reading::read_change))]
 fn change(next: Place, code_next: Place, r: Reader, at: u64, p: Partial) -> Reader
     ensures { (w : List ℕ) → Keeps p w → result ≡ read_change next code_next r (word_with at w) }
 {
     if marks::is_vector(p) {
-        return readers::at(readers::with_vector(r, marks::vector(p)), code_next);
+        readers::at(readers::with_vector(r, marks::vector(p)), code_next)
+    } else if is_scalar(r, p) {
+        let level = bit_value(p.first);
+        readers::at(readers::with_value(r, Signal::Stb, level), next)
+    } else {
+        readers::misread(r, Misreading::NotGrammar, at)
     }
-    if is_scalar(r, p) {
-        return readers::at(
-            readers::with_value(r, Signal::Stb, bit_value(p.first)),
-            next,
-        );
-    }
-    readers::refused(r, 11, at)
 }
 
+#[tactic(auto, unfolding(recording::specs::Reading::read_vector_code))]
 fn vector_code(next: Place, r: Reader, at: u64, p: Partial) -> Reader
     ensures { (w : List ℕ) → Keeps p w → result ≡ read_vector_code next (vector_signal r w) r (word_with at w) }
 {
-    let n = declarations::coded(r, marks::code_of(p.length, p.low));
-    match n {
-        Named::Nothing => readers::refused(r, 11, at),
-        Named::Of(s) => {
-            let v = readers::variable(r.variables, s);
-            if r.pending.vector.length <= v.width {
-                let given = r.pending.vector.value;
-                return readers::at(readers::with_value(r, s, given), next);
-            }
-            readers::refused(r, 11, at)
+    let given = r.pending.vector;
+    match declarations::coded(r, marks::code_of(p.length, p.low)) {
+        Some(s) if given.length <= readers::variable(r.variables, s).width => {
+            readers::at(readers::with_value(r, s, given.value), next)
         }
+        _ => readers::misread(r, Misreading::NotGrammar, at),
     }
 }
 
@@ -160,33 +147,32 @@ fn vector_code(next: Place, r: Reader, at: u64, p: Partial) -> Reader
 pub fn is_later(r: Reader, t: u64) -> bool
     ensures { result ≡ is_later r t }
 {
-    if r.stamp.opened {
-        return r.stamp.time < t;
-    }
-    true
+    !r.stamp.opened || r.stamp.time < t
 }
 
+#[tactic(auto, using(crate::proofs::Telling::time_value), unfolding(recording::specs::Reading::open_stamp))]
 fn open_stamp(r: Reader, at: u64, p: Partial) -> Reader
     ensures { (w : List ℕ) → Keeps p w → starts_time w ≡ true → result ≡ open_stamp r (word_with at w) }
 {
+    let time = p.number.value;
     if !marks::is_time(p) {
-        return readers::refused(r, 11, at);
+        readers::misread(r, Misreading::NotGrammar, at)
+    } else if is_later(r, time) {
+        readers::with_time(r, time)
+    } else {
+        readers::misread(r, Misreading::NotRising, at)
     }
-    if is_later(r, p.number.value) {
-        return readers::with_time(r, p.number.value);
-    }
-    readers::refused(r, 14, at)
 }
 
+#[tactic(auto, unfolding(recording::specs::Reading::read_time, recording::specs::Reading::and_then))]
 fn time(r: Reader, at: u64, p: Partial) -> Read
     ensures { (w : List ℕ) → Keeps p w → starts_time w ≡ true → result ≡ read_time r (word_with at w) }
 {
     let ended = stamps::end_open_stamp(r, at);
-    let next = ended.reader;
-    if next.fault.number != 0 {
+    if ended.reader.fault.number != 0 {
         return ended;
     }
-    readers::read_with(open_stamp(next, at, p), ended.strobe)
+    readers::read_with(open_stamp(ended.reader, at, p), ended.strobe)
 }
 
 // ---- one word
@@ -194,49 +180,47 @@ fn time(r: Reader, at: u64, p: Partial) -> Read
 fn is_dump(p: Partial) -> bool
     ensures { (w : List ℕ) → Keeps p w → result ≡ is_dump w }
 {
-    flags::any_of(
-        marks::says(p, Keyword::DumpVars),
-        marks::says(p, Keyword::DumpAll),
-        marks::says(p, Keyword::DumpOn),
-        marks::says(p, Keyword::DumpOff),
-        false,
-        false,
-    )
+    marks::says(p, Keyword::DumpVars)
+        || marks::says(p, Keyword::DumpAll)
+        || marks::says(p, Keyword::DumpOn)
+        || marks::says(p, Keyword::DumpOff)
 }
 
+#[tactic(auto, unfolding(recording::specs::Reading::read_body))]
 fn body(r: Reader, at: u64, p: Partial) -> Read
     ensures { (w : List ℕ) → Keeps p w → result ≡ read_body r (word_with at w) }
 {
     if marks::starts_time(p) {
-        return time(r, at, p);
+        time(r, at, p)
+    } else if marks::says(p, Keyword::Comment) {
+        readers::only(readers::at(r, Place::SkipBody))
+    } else if is_dump(p) {
+        readers::only(readers::at(r, Place::Block))
+    } else {
+        readers::only(change(Place::Body, Place::BodyCode, r, at, p))
     }
-    if marks::says(p, Keyword::Comment) {
-        return readers::only(readers::at(r, Place::SkipBody));
-    }
-    if is_dump(p) {
-        return readers::only(readers::at(r, Place::Block));
-    }
-    readers::only(change(Place::Body, Place::BodyCode, r, at, p))
 }
 
+#[tactic(auto, unfolding(recording::specs::Reading::read_block))]
 fn block(r: Reader, at: u64, p: Partial) -> Reader
     ensures { (w : List ℕ) → Keeps p w → result ≡ read_block r (word_with at w) }
 {
     if marks::says(p, Keyword::End) {
-        return readers::at(r, Place::Body);
+        readers::at(r, Place::Body)
+    } else {
+        change(Place::Block, Place::BlockCode, r, at, p)
     }
-    change(Place::Block, Place::BlockCode, r, at, p)
 }
 
 // What a word does: it depends on what is kept of the word, and on nothing else of it.
+#[tactic(auto, unfolding(recording::specs::Reading::read_word, recording::specs::Reading::read_at))]
 pub fn word(r: Reader, at: u64, p: Partial) -> Read
     ensures { (w : List ℕ) → Keeps p w → result ≡ read_word r (word_with at w) }
 {
     if r.fault.number != 0 {
         return readers::only(r);
     }
-    let place = r.place;
-    match place {
+    match r.place {
         Place::Definition => readers::only(definition(r, at, p)),
         Place::SkipDefinition => readers::only(skipping(Place::Definition, r, p)),
         Place::Wire => readers::only(expected(Keyword::Wire, Place::Width, r, at, p)),
@@ -258,24 +242,11 @@ pub fn word(r: Reader, at: u64, p: Partial) -> Read
 pub fn is_body(place: Place) -> bool
     ensures { result ≡ is_body place }
 {
-    match place {
-        Place::Definition => false,
-        Place::SkipDefinition => false,
-        Place::Wire => false,
-        Place::Width => false,
-        Place::Code => false,
-        Place::Name => false,
-        Place::VarEnd => false,
-        Place::DefinitionsEnd => false,
-        Place::Body => true,
-        Place::SkipBody => false,
-        Place::BodyCode => false,
-        Place::Block => false,
-        Place::BlockCode => false,
-    }
+    matches!(place, Place::Body)
 }
 
 // The end of a text of this length.
+#[tactic(auto, unfolding(recording::specs::Reading::finish, recording::specs::Reading::and_then))]
 pub fn finish(r: Reader, length: u64) -> Read
     ensures { result ≡ finish_of length r }
 {
@@ -283,13 +254,11 @@ pub fn finish(r: Reader, length: u64) -> Read
         return readers::only(r);
     }
     let ended = stamps::end_open_stamp(r, length);
-    let next = ended.reader;
-    if next.fault.number != 0 {
+    if ended.reader.fault.number != 0 || is_body(ended.reader.place) {
         return ended;
     }
-    let place = next.place;
-    if is_body(place) {
-        return readers::read_with(next, ended.strobe);
-    }
-    readers::read_with(readers::refused(next, 11, length), ended.strobe)
+    readers::read_with(
+        readers::misread(ended.reader, Misreading::NotGrammar, length),
+        ended.strobe,
+    )
 }

@@ -1,10 +1,11 @@
 -- `vcd_words::marks::is_decimal` meets its contract. Assumes nothing.
-use Rattle.vcd_words.proofs.Telling.{decimal_first, decimal_rest}
-use mathlib.Core.Path.{sym, ◌∙◌}
+use Rattle.std.proofs.Common.{arith}
+use Rattle.std.proofs.lemmas.Grind.{common_steps}
+use Rattle.vcd_words.proofs.Telling.{decimal_told}
 use Rattle.vcd_words.proofs.marks.is_decimal.Goals as goal
 
-pub returns-then-not-is_digit : goal.returns-then-not-is_digit
-returns-then-not-is_digit c = λ w k. decimal_first k (sym c.is_digit.ensures ∙ c.if-not-is_digit.true)
+pub returns-then-is_digit : goal.returns-then-is_digit
+returns-then-is_digit c = λ w k. grind (arith, common_steps, decimal_told k)
 
-pub returns : goal.returns
-returns c = λ w k. decimal_rest k (sym c.is_digit.ensures ∙ c.if-not-is_digit.false)
+pub returns-else-is_digit : goal.returns-else-is_digit
+returns-else-is_digit c = λ w k. grind (arith, common_steps, decimal_told k)

@@ -1,12 +1,9 @@
--- `vcd_words::scanning::digits` meets its contract. The loop's invariant: the bytes from i on make of the number so far what all
--- make of the number given. The measure is what is left of the range. Assumes nothing.
-use Prim.Native.Nat.{◌-◌}
+-- The invariant of the loop of `vcd_words::scanning::digits`: the bytes that are left make of the number so far what all make of the
+-- number given. Assumes nothing.
 use mathlib.Core.Path.{◌≡◌}
-use Rattle.vcd_words.specs.Partial.{between, number_with, more_digits}
+use lib.ListN.{drop}
+use Rattle.vcd_words.specs.Partial.{more_digits}
 use Rattle.vcd_words.proofs.scanning.digits.Given as goal
 
-abbrev pub invariant-loop-i : goal.invariant-loop-i
-invariant-loop-i l = more_digits (number_with l.n.whole l.n.known l.over l.value) (between l.text l.i l.end) ≡ more_digits l.n (between l.text l.from l.end)
-
-abbrev pub decreases-loop-i : goal.decreases-loop-i
-decreases-loop-i l = l.end - l.i
+abbrev pub invariant-loop-b : goal.invariant-loop-b
+invariant-loop-b l = more_digits l.sum (drop l.b-index l.bytes) ≡ more_digits l.fn.n l.bytes

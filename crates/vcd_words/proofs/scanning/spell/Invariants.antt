@@ -1,12 +1,12 @@
--- The invariant of the loop of `vcd_words::scanning::spell`: what is spelled up to i, with the run from i on, is the whole run. The measure is
--- what is left of the text. Assumes nothing.
-use Prim.Native.Nat.{◌-◌}
-use lib.ListN.{length}
-use Rattle.vcd_words.proofs.Bytes.{Spells}
+-- The invariant of the loop of `vcd_words::scanning::spell`: the bytes that are left make of what is spelled so far what all make of what
+-- was given. Assumes nothing.
+use mathlib.Core.Path.{◌≡◌}
+use lib.ListN.{drop}
+use Rattle.vcd_words.specs.Partial.{spell_high, spell_low}
 use Rattle.vcd_words.proofs.scanning.spell.Given as goal
 
-abbrev pub invariant-loop-i : goal.invariant-loop-i
-invariant-loop-i l = Spells l.text l.from l.high l.low l.i l.h l.l
-
-abbrev pub decreases-loop-i : goal.decreases-loop-i
-decreases-loop-i l = length l.text - l.i
+abbrev pub invariant-loop-b : goal.invariant-loop-b
+invariant-loop-b l = record {
+  highs : spell_high l.high l.low (drop l.b-index l.word) ≡ spell_high l.fn.high l.fn.low l.word;
+  lows : spell_low l.low (drop l.b-index l.word) ≡ spell_low l.fn.low l.word;
+}

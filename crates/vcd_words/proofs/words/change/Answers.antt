@@ -4,13 +4,6 @@ use Rattle.recording.specs.Reading.{read_change}
 use Rattle.vcd_words.proofs.Keeping.{kept_first}
 use Rattle.vcd_words.proofs.words.change.Goals as goal
 
-pub returns-then-is_vector : goal.returns-then-is_vector
-unfolding read_change
-returns-then-is_vector c =
-    λ w k.
-    let vector = sym (c.is_vector.ensures w k) ∙ c.if-is_vector.true in
-    rw (c.at.ensures, c.with_vector.ensures, c.vector.ensures w k vector, vector)
-
 pub returns-then-is_scalar : goal.returns-then-is_scalar
 unfolding read_change
 returns-then-is_scalar c =
@@ -18,17 +11,8 @@ returns-then-is_scalar c =
     rw (
       c.at-then-is_scalar.ensures,
       c.with_value.ensures,
-      c.bit_value.ensures,
+      c.bit_value-level.ensures,
       sym (c.is_vector.ensures w k) ∙ c.if-is_vector.false,
       sym (c.is_scalar.ensures w k) ∙ c.if-is_scalar.true,
       kept_first k,
-    )
-
-pub returns : goal.returns
-unfolding read_change
-returns c = λ w k.
-    rw (
-      c.refused.ensures,
-      sym (c.is_vector.ensures w k) ∙ c.if-is_vector.false,
-      sym (c.is_scalar.ensures w k) ∙ c.if-is_scalar.false,
     )
