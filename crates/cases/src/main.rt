@@ -4,7 +4,7 @@
 mod print;
 mod script;
 
-use model::{Answer, Command, Controller, Decoded, SourceAction, SourceId};
+use model::{Answer, Command, Controller, SourceAction, SourceId};
 use std::io;
 
 // The table's start state, by the commands that set it up.
@@ -63,7 +63,7 @@ fn main(rt: HostRuntime) -> io::Result<()> {
         let at = row[2];
         let priority = row[3];
         match decoding::command(kind, at, priority) {
-            Decoded::Known(c) => {
+            Some(c) => {
                 print::label(&rt, row[0])?;
                 print::command(&rt, c)?;
                 let a = commands::execute(s, c);
@@ -79,7 +79,7 @@ fn main(rt: HostRuntime) -> io::Result<()> {
                 print::line_end(&rt)?;
                 s = a.state;
             }
-            Decoded::Unknown => {
+            None => {
                 if kind == script::START {
                     print::start(&rt)?;
                     s = start();

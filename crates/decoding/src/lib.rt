@@ -14,8 +14,7 @@ use layout::{
     STATE_SIZE,
 };
 use model::{
-    CORES, Command, Controller, Core, CoreAction, CoreId, Decoded, SOURCES, Source, SourceAction,
-    SourceId,
+    CORES, Command, Controller, Core, CoreAction, CoreId, SOURCES, Source, SourceAction, SourceId,
 };
 
 // The word at i, its lower byte first.
@@ -144,18 +143,18 @@ pub fn is_state(b: &[u8]) -> bool
 }
 
 // The command that three numbers name: its own, 0 to 7, the id or the core, and the priority. A number above 7 names none.
-pub fn command(number: u16, at: u16, p: u16) -> Decoded
+pub fn command(number: u16, at: u16, p: u16) -> Option<Command>
     ensures { result ≡ command_of number at p }
 {
     match number {
-        0 => Decoded::Known(Command::OnSource(SourceId(at), SourceAction::SetSourcePriority(p))),
-        1 => Decoded::Known(Command::OnSource(SourceId(at), SourceAction::Mask)),
-        2 => Decoded::Known(Command::OnSource(SourceId(at), SourceAction::Unmask)),
-        3 => Decoded::Known(Command::OnCore(CoreId(at), CoreAction::SetCorePriority(p))),
-        4 => Decoded::Known(Command::OnSource(SourceId(at), SourceAction::Trigger)),
-        5 => Decoded::Known(Command::OnCore(CoreId(at), CoreAction::Claim)),
-        6 => Decoded::Known(Command::OnSource(SourceId(at), SourceAction::Redeliver)),
-        7 => Decoded::Known(Command::OnSource(SourceId(at), SourceAction::Complete)),
-        _ => Decoded::Unknown,
+        0 => Some(Command::OnSource(SourceId(at), SourceAction::SetSourcePriority(p))),
+        1 => Some(Command::OnSource(SourceId(at), SourceAction::Mask)),
+        2 => Some(Command::OnSource(SourceId(at), SourceAction::Unmask)),
+        3 => Some(Command::OnCore(CoreId(at), CoreAction::SetCorePriority(p))),
+        4 => Some(Command::OnSource(SourceId(at), SourceAction::Trigger)),
+        5 => Some(Command::OnCore(CoreId(at), CoreAction::Claim)),
+        6 => Some(Command::OnSource(SourceId(at), SourceAction::Redeliver)),
+        7 => Some(Command::OnSource(SourceId(at), SourceAction::Complete)),
+        _ => None,
     }
 }

@@ -13,8 +13,7 @@ use borrow.Author.Tests.{eq-eqb, ne_eqb}
 use Rattle.lists.proofs.Bools.{Flag, on, off, flag}
 use Rattle.model.specs.declared.Controller.{Controller}
 use Rattle.model.specs.declared.Command.{Command}
-use Rattle.model.specs.declared.Decoded.{Decoded}
-use Rattle.model.specs.declared.Decoded.TheVariants.{Unknown, Known}
+use Rattle.std.specs.Prelude.{Option, Some, None}
 use Rattle.model.specs.declared.Answer.{Answer}
 use Rattle.model.specs.Commands.{execute, make, run}
 use Rattle.layout.specs.Commands.{command_of}
@@ -58,16 +57,16 @@ module _ (number at p : ℕ) (b : List ℕ) where
   unfolding execute_call
   bad_bytes e = done unreadable b (execute_call number at p b) (rw e)
 
-  module _ (d : Decoded) (e : is_state b ≡ true) (ed : d ≡ command_of number at p) where
+  module _ (d : Option Command) (e : is_state b ≡ true) (ed : d ≡ command_of number at p) where
     executed : execute_call number at p b ≡ executed_on b d
     unfolding execute_call
     executed = rw (e, ed)
 
-    pub bad_number : d ≡ Unknown → Does unreadable b (execute_call number at p b)
+    pub bad_number : d ≡ None → Does unreadable b (execute_call number at p b)
     bad_number f = done unreadable b (execute_call number at p b) (executed ∙ rw f)
 
     pub execute_went :
-        {r : ℕ} {c : Command} {sound : Bool} {o : Outcome} {b' keys' ranks' : List ℕ} → d ≡ Known c →
+        {r : ℕ} {c : Command} {sound : Bool} {o : Outcome} {b' keys' ranks' : List ℕ} → d ≡ Some c →
         Went (execute (state_from b) c) sound o b' keys' ranks' → r ≡ o.number + 256 * (o.id.0 + 65536 * o.cycles) →
         Does r b' (execute_call number at p b)
     execute_went {r} {c} {sound} {o} {b'} f w er =

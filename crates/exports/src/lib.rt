@@ -6,7 +6,7 @@
 ghost use Rattle.layout.specs.Bytes.{Does, make_call, execute_call, DoesRun, run_call};
 
 use layout::{COMMAND_SIZE, NO_COUNT, STATE_SIZE, UNREADABLE};
-use model::{CORES, Decoded, SOURCES};
+use model::{CORES, SOURCES};
 
 // A fresh controller of n sources and m cores, written as bytes. Sizes out of range are refused by 2, and the buffer stays as it was.
 pub fn psic_make(n: u16, m: u16, state: &mut [u8]) -> u64
@@ -32,16 +32,14 @@ pub fn psic_execute(state: &mut [u8], number: u16, at: u16, priority: u16) -> u6
     if !decoding::is_state(state) {
         return UNREADABLE;
     }
-    match decoding::command(number, at, priority) {
-        Decoded::Unknown => UNREADABLE,
-        Decoded::Known(c) => {
-            let mut keys = [0; CORES];
-            let mut ranks = [0; SOURCES];
-            let sound = steps::begin(state, &mut keys, &mut ranks);
-            let o = steps::step(state, &mut keys, &mut ranks, sound, c);
-            encoding::packed(o.number, o.id, o.cycles)
-        }
-    }
+    let Some(c) = decoding::command(number, at, priority) else {
+        return UNREADABLE;
+    };
+    let mut keys = [0; CORES];
+    let mut ranks = [0; SOURCES];
+    let sound = steps::begin(state, &mut keys, &mut ranks);
+    let o = steps::step(state, &mut keys, &mut ranks, sound, c);
+    encoding::packed(o.number, o.id, o.cycles)
 }
 
 // A list of commands, 5 bytes each, from the state that the bytes encode; an answer of 5 bytes for each. A command with a number
@@ -69,13 +67,11 @@ pub fn psic_run(state: &mut [u8], list: &[u8], answers: &mut [u8]) -> u64
             decoding::word_at(list, i + 1),
             decoding::word_at(list, i + 3),
         );
-        match read {
-            Decoded::Unknown => break,
-            Decoded::Known(c) => {
-                let o = steps::step(state, &mut keys, &mut ranks, sound, c);
-                encoding::put_answer(answers, i, o.number, o.id, o.cycles);
-            }
-        }
+        let Some(c) = read else {
+            break;
+        };
+        let o = steps::step(state, &mut keys, &mut ranks, sound, c);
+        encoding::put_answer(answers, i, o.number, o.id, o.cycles);
         i += COMMAND_SIZE;
     }
     (i / COMMAND_SIZE) as u64

@@ -8,7 +8,7 @@ use Rattle.model.specs.declared.Command.{Command}
 use Rattle.model.specs.declared.Command.TheVariants.{OnSource, OnCore}
 use Rattle.model.specs.declared.SourceAction.TheVariants.{SetSourcePriority, Mask, Unmask, Trigger, Redeliver, Complete}
 use Rattle.model.specs.declared.CoreAction.TheVariants.{SetCorePriority, Claim}
-use Rattle.model.specs.declared.Decoded.TheVariants.{Unknown, Known}
+use Rattle.std.specs.Prelude.{Some, None}
 use Rattle.layout.specs.Commands.{command_of, number_of, target_of, level_of}
 use Rattle.lists.specs.Rows.{joined}
 use Rattle.layout.specs.Bytes.{command_size, command_bytes, in_fives, commands_in}
@@ -28,7 +28,7 @@ number_small (OnSource id Redeliver) = omega arith
 number_small (OnSource id Complete) = omega arith
 
 -- a command is named by its numbers
-pub command_of-numbers : (c : Command) → command_of (number_of c) (target_of c) (level_of c) ≡ Known c
+pub command_of-numbers : (c : Command) → command_of (number_of c) (target_of c) (level_of c) ≡ Some c
 unfolding command_of
 command_of-numbers (OnSource id (SetSourcePriority p)) = refl
 command_of-numbers (OnSource id Mask) = refl
@@ -40,7 +40,7 @@ command_of-numbers (OnSource id Redeliver) = refl
 command_of-numbers (OnSource id Complete) = refl
 
 -- a number above 7 names none
-pub unknown : (number at p : ℕ) → 7 < number → command_of number at p ≡ Unknown
+pub unknown : (number at p : ℕ) → 7 < number → command_of number at p ≡ None
 unfolding command_of
 unknown number at p h =
     rw (

@@ -9,7 +9,7 @@
 --   entries_in cs b      the commands cs, each with the number and the id of its answer's bytes in the row b
 --   packed a            an answer as one number; number_in, id_in, cycles_in are its parts
 --   make_call, execute_call, run_call    what the exported calls answer and write
-use Rattle.std.specs.Prelude.{ℕ, ◌+◌, ◌*◌, ◌/◌, ◌%◌, ◌≡◌, List, [], ◌∷◌, ◌++◌, Bool, ◌&&◌, cond, length, get_or, drop, leb, eqb}
+use Rattle.std.specs.Prelude.{ℕ, ◌+◌, ◌*◌, ◌/◌, ◌%◌, ◌≡◌, List, [], ◌∷◌, ◌++◌, Bool, ◌&&◌, cond, length, get_or, drop, leb, eqb, Option, Some, None}
 use Rattle.std.proofs.lemmas.List.Edits.{sets}
 use Rattle.lists.specs.Rows.{joined, tabulated}
 use Rattle.model.specs.declared.Source.{Source}
@@ -17,8 +17,6 @@ use Rattle.model.specs.declared.Core.{Core}
 use Rattle.model.specs.declared.Controller.{Controller}
 use Rattle.model.specs.declared.Answer.{Answer}
 use Rattle.model.specs.declared.Command.{Command}
-use Rattle.model.specs.declared.Decoded.{Decoded}
-use Rattle.model.specs.declared.Decoded.TheVariants.{Unknown, Known}
 use Rattle.model.specs.Records.{max_sources, max_cores, source_id, source_with, box_with, core_with, controller_with}
 use Rattle.lists.specs.Walks.{every}
 use Rattle.model.specs.Commands.{execute, make, run}
@@ -129,9 +127,9 @@ in_fives read (a ∷ b ∷ c ∷ []) = []
 in_fives read (a ∷ b ∷ c ∷ d ∷ []) = []
 in_fives read (a ∷ b ∷ c ∷ d ∷ e ∷ rest) = or_end (read a (b + 256 * c) (d + 256 * e)) (in_fives read rest)
 
-abbrev pub one_command : Decoded → List Command
-one_command Unknown = []
-one_command (Known c) = c ∷ []
+abbrev pub one_command : Option Command → List Command
+one_command None = []
+one_command (Some c) = c ∷ []
 
 -- The commands up to the first that cannot be read: a number above 7, or fewer than five bytes left.
 abbrev pub commands_in : List ℕ → List Command
@@ -194,9 +192,9 @@ make_call n m b =
     (call_of unreadable b)
 
 -- A command on bytes that encode a state.
-abbrev pub executed_on : List ℕ → Decoded → Call
-executed_on b Unknown = call_of unreadable b
-executed_on b (Known c) = call_of (packed (execute (state_from b) c)) (state_bytes (execute (state_from b) c).state)
+abbrev pub executed_on : List ℕ → Option Command → Call
+executed_on b None = call_of unreadable b
+executed_on b (Some c) = call_of (packed (execute (state_from b) c)) (state_bytes (execute (state_from b) c).state)
 
 unfoldable pub execute_call : ℕ → ℕ → ℕ → List ℕ → Call
 execute_call number at p b = cond (is_state b) (executed_on b (command_of number at p)) (call_of unreadable b)

@@ -9,9 +9,8 @@
 --   RunStrict, ListStrict                    demand 3 and the counts of dropped triggers, the ledger kept from the answers' bytes: of any
 --                                            bytes, and of any list of commands
 --   CallsStrict                              the same of any list of commands that are called one by one
-use Rattle.std.specs.Prelude.{ℕ, ◌+◌, ◌*◌, ◌^◌, ◌<◌, ◌≤◌, ◌≡◌, ◌≢◌, List, [], ◌∷◌, true, length, get_or, drop}
+use Rattle.std.specs.Prelude.{ℕ, ◌+◌, ◌*◌, ◌^◌, ◌<◌, ◌≤◌, ◌≡◌, ◌≢◌, List, [], ◌∷◌, true, length, get_or, drop, Some}
 use Rattle.model.specs.declared.Command.{Command}
-use Rattle.model.specs.declared.Decoded.TheVariants.{Known}
 use Rattle.model.specs.Commands.{already_pending, execute}
 use Rattle.model.specs.Ledger.{Entry, entry_with, opening, ledger}
 use Rattle.layout.specs.Commands.{command_of, number_of, target_of, level_of}
@@ -29,7 +28,7 @@ RefusedMakeKeeps = (n m : ℕ) (b : List ℕ) → number_in (make_call n m b).re
 -- On bytes that encode a state, a command's call tells what the command answers.
 abbrev pub ExecuteTells : Type 0
 ExecuteTells =
-    (number at p : ℕ) (b : List ℕ) (c : Command) → is_state b ≡ true → command_of number at p ≡ Known c →
+    (number at p : ℕ) (b : List ℕ) (c : Command) → is_state b ≡ true → command_of number at p ≡ Some c →
     let told = (execute_call number at p b).result in
     let a = execute (state_from b) c in
     (number_in told ≡ a.number) × (id_in told ≡ a.id.0) × (cycles_in told ≡ a.cycles)

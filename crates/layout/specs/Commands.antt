@@ -3,24 +3,22 @@
 -- The numbers are the command's own, 0 to 7; the id or the core; and the priority, which only 0 and 3 use.
 --   command_of number at p                the command that they name; a number above 7 names none
 --   number_of c, target_of c, level_of c    the numbers of a command; one without a priority has 0 there
-use Rattle.std.specs.Prelude.{ℕ, cond, eqb}
+use Rattle.std.specs.Prelude.{ℕ, cond, eqb, Option, Some, None}
 use Rattle.model.specs.declared.Command.{Command}
 use Rattle.model.specs.declared.Command.TheVariants.{OnSource, OnCore}
 use Rattle.model.specs.declared.SourceAction.{SourceAction}
 use Rattle.model.specs.declared.SourceAction.TheVariants.{SetSourcePriority, Mask, Unmask, Trigger, Redeliver, Complete}
 use Rattle.model.specs.declared.CoreAction.{CoreAction}
 use Rattle.model.specs.declared.CoreAction.TheVariants.{SetCorePriority, Claim}
-use Rattle.model.specs.declared.Decoded.{Decoded}
-use Rattle.model.specs.declared.Decoded.TheVariants.{Unknown, Known}
 use Rattle.model.specs.Records.{source_id, core_id}
 
-abbrev pub on_source : ℕ → SourceAction → Decoded
-on_source at a = Known (OnSource (source_id at) a)
+abbrev pub on_source : ℕ → SourceAction → Option Command
+on_source at a = Some (OnSource (source_id at) a)
 
-abbrev pub on_core : ℕ → CoreAction → Decoded
-on_core at a = Known (OnCore (core_id at) a)
+abbrev pub on_core : ℕ → CoreAction → Option Command
+on_core at a = Some (OnCore (core_id at) a)
 
-unfoldable pub command_of : ℕ → ℕ → ℕ → Decoded
+unfoldable pub command_of : ℕ → ℕ → ℕ → Option Command
 command_of number at p =
     cond (eqb number 0) (on_source at (SetSourcePriority p))
     (cond (eqb number 1) (on_source at Mask)
@@ -28,7 +26,7 @@ command_of number at p =
     (cond (eqb number 3) (on_core at (SetCorePriority p))
     (cond (eqb number 4) (on_source at Trigger)
     (cond (eqb number 5) (on_core at Claim)
-    (cond (eqb number 6) (on_source at Redeliver) (cond (eqb number 7) (on_source at Complete) Unknown)))))))
+    (cond (eqb number 6) (on_source at Redeliver) (cond (eqb number 7) (on_source at Complete) None)))))))
 
 abbrev pub source_number : SourceAction → ℕ
 source_number (SetSourcePriority p) = 0

@@ -87,13 +87,6 @@ pub enum Command {
     OnCore(CoreId, CoreAction),
 }
 
-// What three numbers name: a command, or none.
-#[derive(Clone, Copy)]
-pub enum Decoded {
-    Unknown,
-    Known(Command),
-}
-
 // What every call answers: the state handed back, document 01's number (0 is success),
 // the claimed id (0 for every other call), and the cycles of settling.
 #[derive(Clone, Copy)]

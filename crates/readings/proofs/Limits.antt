@@ -9,8 +9,8 @@ use mathlib.Core.Bool.{Bool, true, false, ◌&&◌, cond}
 use native.Mathlib.Omega.{arith}
 use lib.ListN.{length, length-append}
 use Rattle.lists.proofs.Bools.{Flag, on, off, flag}
-use Rattle.model.specs.declared.Decoded.{Decoded}
-use Rattle.model.specs.declared.Decoded.TheVariants.{Unknown, Known}
+use Rattle.model.specs.declared.Command.{Command}
+use Rattle.std.specs.Prelude.{Option, Some, None}
 use Rattle.layout.specs.Bytes.{one_command}
 use Rattle.layout.specs.Commands.{command_of}
 use Rattle.recording.specs.declared.Reader.{Reader}
@@ -30,9 +30,9 @@ use Rattle.readings.proofs.Final.{bad_word, bad_finish}
 abbrev pub opens : Reader → ℕ
 opens r = cond r.stamp.opened 1 0
 
-named_most : (d : Decoded) → length (one_command d) ≤ 1
-named_most Unknown = omega arith
-named_most (Known c) = omega arith
+named_most : (d : Option Command) → length (one_command d) ≤ 1
+named_most None = omega arith
+named_most (Some c) = omega arith
 
 pub strobe_most : (s : Strobe) → length (commands_of s) ≤ 1
 unfolding commands_of

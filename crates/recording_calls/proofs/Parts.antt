@@ -12,8 +12,7 @@ use lib.ListN.{length, drop_of_length-le}
 use lib.Dec.{ltb}
 use borrow.Author.Tests.{lt-ltb, le-ltb, not-true, not-false}
 use Rattle.model.specs.declared.Command.{Command}
-use Rattle.model.specs.declared.Decoded.{Decoded}
-use Rattle.model.specs.declared.Decoded.TheVariants.{Unknown, Known}
+use Rattle.std.specs.Prelude.{Option, Some, None}
 use Rattle.layout.specs.Bytes.{one_command}
 use Rattle.layout.specs.Commands.{command_of}
 use Rattle.recording.specs.declared.Reader.{Reader}
@@ -30,11 +29,11 @@ use Rattle.readings.proofs.Cutting.{read_words-commands}
 use Rattle.recording_calls.specs.Remaining.{Remaining, remaining_with, to_end, remaining, left, before, Continues}
 
 module _ (s : Strobe) where
-  pub none_given : not s.given ≡ true → one_command Unknown ≡ commands_of s
+  pub none_given : not s.given ≡ true → one_command None ≡ commands_of s
   unfolding commands_of
   none_given e = rw (not-true s.given e)
 
-  pub some_given : (d : Decoded) → not s.given ≡ false → d ≡ command_of s.number s.target s.level → one_command d ≡ commands_of s
+  pub some_given : (d : Option Command) → not s.given ≡ false → d ≡ command_of s.number s.target s.level → one_command d ≡ commands_of s
   unfolding commands_of
   some_given d e ed = rw (not-false s.given e, ed)
 
@@ -111,18 +110,18 @@ module _ (t : List ℕ) (at : ℕ) (r : Reader) (a : Advanced) where
   abbrev pub after : Remaining
   after = left (ltb at (length t)) t a.end a.reader
 
-  module _ (h : Continues t at r a) (d : Decoded) (e : one_command d ≡ commands_of a.strobe) where
+  module _ (h : Continues t at r a) (d : Option Command) (e : one_command d ≡ commands_of a.strobe) where
     abbrev with_commands : List Command → Remaining
     with_commands cs = remaining_with (cs ++ after.commands) (map (λ (c : Command). a.time) cs ++ after.times) after.reader
 
-    by : {x : Decoded} → d ≡ x → (more : Bool) → more ≡ true → left more t at r ≡ with_commands (one_command x)
+    by : {x : Option Command} → d ≡ x → (more : Bool) → more ≡ true → left more t at r ≡ with_commands (one_command x)
     by f more on = ap (λ (b : Bool). left b t at r) on ∙ h.reads ∙ ap with_commands (sym e ∙ ap one_command f)
 
-    pub next_none : d ≡ Unknown → (more : Bool) → more ≡ true → left more t at r ≡ after
+    pub next_none : d ≡ None → (more : Bool) → more ≡ true → left more t at r ≡ after
     next_none f more on = by f more on
 
     pub next_one :
-        (c : Command) → d ≡ Known c → (more : Bool) → more ≡ true →
+        (c : Command) → d ≡ Some c → (more : Bool) → more ≡ true →
         left more t at r ≡ remaining_with (c ∷ after.commands) (a.time ∷ after.times) after.reader
     next_one c f more on = by f more on
 

@@ -10,7 +10,7 @@ ghost use Rattle.recording.specs.Reading.{is_good};
 ghost use Rattle.recording.specs.Calls.{report_with, no_room, read_call, fits_read, DoesRead, replay_call, fits_replay, DoesReplay};
 ghost use Rattle.recording_calls.specs.Remaining.{Continues};
 
-use model::{CORES, Decoded, SOURCES};
+use model::{CORES, Command, SOURCES};
 use recording::{Reader, Report, Strobe};
 use vcd_reader::{Advanced, advancing};
 use vcd_words::{readers, words};
@@ -56,11 +56,11 @@ fn room(length: usize) -> usize
 // ---- one command after another
 
 // The command of a strobe, none if there is none.
-fn taken(s: Strobe) -> Decoded
+fn taken(s: Strobe) -> Option<Command>
     ensures { one_command result ≡ commands_of s }
 {
     if !s.given {
-        return Decoded::Unknown;
+        return None;
     }
     decoding::command(s.number, s.target, s.level)
 }
@@ -103,14 +103,10 @@ fn read_all(text: &[u8], commands: &mut [u8], times: &mut [u64]) -> Report
         let a = next(text, at, r);
         r = a.reader;
         at = a.end;
-        let d = taken(a.strobe);
-        match d {
-            Decoded::Unknown => continue,
-            Decoded::Known(c) => {
-                encoding::put_command(commands, 5 * count, c);
-                times[count] = a.time;
-                count += 1;
-            }
+        if let Some(c) = taken(a.strobe) {
+            encoding::put_command(commands, 5 * count, c);
+            times[count] = a.time;
+            count += 1;
         }
     }
     report_of(r, count as u16, text.len() as u64)
@@ -157,14 +153,10 @@ fn replay_all(n: u16, m: u16, text: &[u8], state: &mut [u8], answers: &mut [u8])
         let a = next(text, at, r);
         r = a.reader;
         at = a.end;
-        let d = taken(a.strobe);
-        match d {
-            Decoded::Unknown => continue,
-            Decoded::Known(c) => {
-                let o = steps::step(state, &mut keys, &mut ranks, sound, c);
-                encoding::put_answer(answers, 5 * count, o.number, o.id, o.cycles);
-                count += 1;
-            }
+        if let Some(c) = taken(a.strobe) {
+            let o = steps::step(state, &mut keys, &mut ranks, sound, c);
+            encoding::put_answer(answers, 5 * count, o.number, o.id, o.cycles);
+            count += 1;
         }
     }
     report_of(r, count as u16, text.len() as u64)

@@ -10,8 +10,8 @@ use lib.Seq.{length-sets, drop_at}
 use lib.Dec.{eqb}
 use borrow.Author.Tests.{eqb-true}
 use Rattle.lists.proofs.Bools.{and_l, and_r, Flag, on, off, flag}
-use Rattle.model.specs.declared.Decoded.{Decoded}
-use Rattle.model.specs.declared.Decoded.TheVariants.{Unknown, Known}
+use Rattle.model.specs.declared.Command.{Command}
+use Rattle.std.specs.Prelude.{Option, Some, None}
 use Rattle.model.specs.Commands.{already_pending, execute, make}
 use Rattle.layout.specs.Commands.{command_of}
 use Rattle.layout.specs.Bytes.{state_size, state_bytes, state_from, is_state, commands_in, answer_size, number_in, Call, make_call, executed_on}
@@ -45,9 +45,9 @@ refused_make_keeps n m b = go (flag (eqb (length b) state_size)) (flag (eqb (mak
         rw (e, f) (λ h. absurd (h (omega (arith, accepted))))
 
 -- on bytes that encode a state
-executed_keeps : (b : List ℕ) → AreBytes b → is_state b ≡ true → (d : Decoded) → Keeps b (executed_on b d)
-executed_keeps b are e Unknown h other = refl
-executed_keeps b are e (Known c) h other =
+executed_keeps : (b : List ℕ) → AreBytes b → is_state b ≡ true → (d : Option Command) → Keeps b (executed_on b d)
+executed_keeps b are e None h other = refl
+executed_keeps b are e (Some c) h other =
     let some : (execute (state_from b) c).number ≢ 0 = λ q. h (omega (arith, q)) in
     let unaltered : (execute (state_from b) c).number ≢ already_pending = λ q. other (omega (arith, q)) in
     ap state_bytes (refused_state (state_from b) c some unaltered) ∙ bytes_written_back b are e

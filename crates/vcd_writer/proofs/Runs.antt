@@ -20,7 +20,7 @@ use Rattle.model.specs.declared.Command.{Command}
 use Rattle.model.specs.declared.Command.TheVariants.{OnSource, OnCore}
 use Rattle.model.specs.declared.SourceAction.TheVariants.{SetSourcePriority, Mask, Unmask, Trigger, Redeliver, Complete}
 use Rattle.model.specs.declared.CoreAction.TheVariants.{SetCorePriority, Claim}
-use Rattle.model.specs.declared.Decoded.TheVariants.{Known}
+use Rattle.std.specs.Prelude.{Some}
 use Rattle.layout.specs.Commands.{command_of, number_of, level_of}
 use Rattle.layout.specs.Bytes.{word_at, command_size, one_command, commands_in}
 use Rattle.layout.proofs.Commands.{unknown}
@@ -39,7 +39,7 @@ reads number at p = one_command (command_of number at p)
 -- the command, its number, and what its variables hold: core, arg and prio
 abbrev Names : ℕ → ℕ → ℕ → Command → Type 0
 Names number at p c =
-    (command_of number at p ≡ Known c) × (number_of c ≡ number) × (core_value c ≡ core_of number at) × (arg_value c ≡ arg_of number at) ×
+    (command_of number at p ≡ Some c) × (number_of c ≡ number) × (core_value c ≡ core_of number at) × (arg_value c ≡ arg_of number at) ×
     (level_of c ≡ prio_of number p)
 
 names : (number at p : ℕ) → number ≤ 7 → (c : Command) × Names number at p c
@@ -71,7 +71,7 @@ module _ (list : List ℕ) where
   level_at k = word_at list (command_size * k + 3)
 
   module _ (k : ℕ) (inside : command_size * k + command_size ≤ length list) where
-    one_more : (c : Command) → command_of (number_at k) (target_at k) (level_at k) ≡ Known c → from k ≡ c ∷ from (suc k)
+    one_more : (c : Command) → command_of (number_at k) (target_at k) (level_at k) ≡ Some c → from k ≡ c ∷ from (suc k)
     one_more c e =
         let next : command_size * k + command_size ≡ command_size * suc k = omega arith in
         fives_there reads list (command_size * k) inside (ap one_command e)

@@ -12,16 +12,16 @@ returns-then-not-is_state c =
     let a = c.args in
     bad_bytes a.number a.at a.priority a.state.now (sym c.is_state.ensures ∙ c.if-not-is_state.true)
 
-pub returns-in-Unknown : goal.returns-in-Unknown
-returns-in-Unknown c =
+pub returns-in_default : goal.returns-in_default
+returns-in_default c =
     let readable : is_state c.args.state.now ≡ true = sym c.is_state.ensures ∙ c.if-not-is_state.false in
     let a = c.args in
     bad_number a.number a.at a.priority a.state.now c.command.result readable c.command.ensures
-    c.in-Unknown.is
+    c.in_default.is
 
-pub returns-in-Known : goal.returns-in-Known
-returns-in-Known c =
+pub returns : goal.returns
+returns c =
     let readable : is_state c.args.state.now ≡ true = sym c.is_state.ensures ∙ c.if-not-is_state.false in
     let a = c.args in
     execute_went a.number a.at a.priority a.state.now c.command.result readable c.command.ensures
-    c.in-Known.is c.step-o.ensures c.packed.ensures
+    c.in-Some.is c.step-o.ensures c.packed.ensures

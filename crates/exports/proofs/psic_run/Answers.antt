@@ -10,7 +10,7 @@ use Rattle.layout.proofs.Lists.{not_whole, no_room, run_more, run_end, run_stop}
 use Rattle.exports.proofs.Calls.{run_unread, run_no_room, run_ran}
 use Rattle.std.proofs.Common.{sym, ◌∙◌}
 use Rattle.exports.proofs.psic_run.Goals as goal
-use Rattle.exports.proofs.psic_run.Goals.{else-loop-i-test, then-loop-i-test+in-Unknown}
+use Rattle.exports.proofs.psic_run.Goals.{else-loop-i-test, then-loop-i-test+in_default}
 
 pub returns-then-list-ne0 : goal.returns-then-list-ne0
 returns-then-list-ne0 c =
@@ -33,7 +33,7 @@ loop-i-preserved c =
     let l = c.loop-i in
     let went = c.step-o.ensures in
     let read = fives_read read_command list l.i c.word_at.ensures c.word_at-in-loop-i.ensures
-    (ap one_command (sym c.command-read.ensures ∙ c.in-Known.is)) in (
+    (ap one_command (sym c.command-read.ensures ∙ c.in-Some.is)) in (
       run_more l.invariant.0 c.loop-i-test.true read went.state_is c.put_answer.ensures (same_bytes_lem went.says),
       went.going,
     )
@@ -47,9 +47,9 @@ returns c =
     run_ran a.state.now a.list.now a.answers.now readable
     (elim c.loop-i-test.branch [
       | else-loop-i-test w ↦ run_end l.invariant.0 w.loop-i-test.false
-      | then-loop-i-test+in-Unknown w ↦
+      | then-loop-i-test+in_default w ↦
           run_stop l.invariant.0 w.loop-i-test.true
           (fives_read read_command a.list.now l.i w.word_at.ensures w.word_at-in-loop-i.ensures
-          (ap one_command (sym w.command-read.ensures ∙ w.in-Unknown.is)))
+          (ap one_command (sym w.command-read.ensures ∙ w.in_default.is)))
     ])
     l.invariant.1.whole

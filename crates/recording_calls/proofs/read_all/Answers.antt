@@ -18,7 +18,7 @@ overflow_mul-count c =
     let n = c.next-a in
     let room_left : l.count < room t =
     more_room t l.at l.count n.result.time _ (left l.more t l.at l.r) (after t l.at l.r n.result) l.invariant.reached
-    (next_one t l.at l.r n.result n.ensures c.taken-d.result c.taken-d.ensures _ c.in-Known.is l.more c.loop-more-test.true) in
+    (next_one t l.at l.r n.result n.ensures c.taken.result c.taken.ensures _ c.in-Some.is l.more c.loop-more-test.true) in
     omega (arith, room_left)
 
 pub offset_bounds-times-count : goal.offset_bounds-times-count
@@ -28,7 +28,7 @@ offset_bounds-times-count c =
     let n = c.next-a in
     let room_left : l.count < room t =
     more_room t l.at l.count n.result.time _ (left l.more t l.at l.r) (after t l.at l.r n.result) l.invariant.reached
-    (next_one t l.at l.r n.result n.ensures c.taken-d.result c.taken-d.ensures _ c.in-Known.is l.more c.loop-more-test.true) in
+    (next_one t l.at l.r n.result n.ensures c.taken.result c.taken.ensures _ c.in-Some.is l.more c.loop-more-test.true) in
     omega (arith, room_left)
 
 pub put_command-requires : goal.put_command-requires
@@ -38,7 +38,7 @@ put_command-requires c =
     let n = c.next-a in
     let room_left : l.count < room t =
     more_room t l.at l.count n.result.time _ (left l.more t l.at l.r) (after t l.at l.r n.result) l.invariant.reached
-    (next_one t l.at l.r n.result n.ensures c.taken-d.result c.taken-d.ensures _ c.in-Known.is l.more c.loop-more-test.true) in
+    (next_one t l.at l.r n.result n.ensures c.taken.result c.taken.ensures _ c.in-Some.is l.more c.loop-more-test.true) in
     omega (arith, room_left, commands_fit t c.args.commands.now c.args.times.now c.requires, l.invariant.size)
 
 pub bounds-times-count : goal.bounds-times-count
@@ -48,7 +48,7 @@ bounds-times-count c =
     let n = c.next-a in
     let room_left : l.count < room t =
     more_room t l.at l.count n.result.time _ (left l.more t l.at l.r) (after t l.at l.r n.result) l.invariant.reached
-    (next_one t l.at l.r n.result n.ensures c.taken-d.result c.taken-d.ensures _ c.in-Known.is l.more c.loop-more-test.true) in
+    (next_one t l.at l.r n.result n.ensures c.taken.result c.taken.ensures _ c.in-Some.is l.more c.loop-more-test.true) in
     omega (arith, room_left, times_fit t c.args.commands.now c.args.times.now c.requires, l.invariant.times_size)
 
 pub overflow_add-count : goal.overflow_add-count
@@ -58,20 +58,20 @@ overflow_add-count c =
     let n = c.next-a in
     let room_left : l.count < room t =
     more_room t l.at l.count n.result.time _ (left l.more t l.at l.r) (after t l.at l.r n.result) l.invariant.reached
-    (next_one t l.at l.r n.result n.ensures c.taken-d.result c.taken-d.ensures _ c.in-Known.is l.more c.loop-more-test.true) in
+    (next_one t l.at l.r n.result n.ensures c.taken.result c.taken.ensures _ c.in-Some.is l.more c.loop-more-test.true) in
     omega (arith, room_left, commands_room t)
 
-pub loop-more-preserved : goal.loop-more-preserved
-loop-more-preserved c =
+pub loop-more-preserved-in-Some : goal.loop-more-preserved-in-Some
+loop-more-preserved-in-Some c =
     let put = c.put_command in
     let a = c.args in
     let t = a.text.now in
     let l = c.loop-more in
     let n = c.next-a in
-    let d = c.taken-d in
+    let d = c.taken in
     read_more t a.commands.now a.times.now l.commands l.times l.at n.result.end l.count
     (left l.more t l.at l.r) (after t l.at l.r n.result) l.invariant n.ensures.within put.new.b n.result.time _
-    (next_one t l.at l.r n.result n.ensures d.result d.ensures _ c.in-Known.is l.more
+    (next_one t l.at l.r n.result n.ensures d.result d.ensures _ c.in-Some.is l.more
     c.loop-more-test.true)
     put.ensures
 

@@ -45,7 +45,7 @@ overflow_mul-count c =
     let n = c.next-a in
     let behind : Remaining = after t l.at l.r n.result in
     let one_read =
-    next_one t l.at l.r n.result n.ensures c.taken-d.result c.taken-d.ensures _ c.in-Known.is l.more c.loop-more-test.true in
+    next_one t l.at l.r n.result n.ensures c.taken.result c.taken.ensures _ c.in-Some.is l.more c.loop-more-test.true in
     let room_left : l.count < room t = more_room t l.at l.count _ _ (left l.more t l.at l.r) behind l.invariant.0.reached one_read in
     omega (arith, room_left)
 
@@ -56,7 +56,7 @@ put_answer-requires c =
     let n = c.next-a in
     let behind : Remaining = after t l.at l.r n.result in
     let one_read =
-    next_one t l.at l.r n.result n.ensures c.taken-d.result c.taken-d.ensures _ c.in-Known.is l.more c.loop-more-test.true in
+    next_one t l.at l.r n.result n.ensures c.taken.result c.taken.ensures _ c.in-Some.is l.more c.loop-more-test.true in
     let room_left : l.count < room t = more_room t l.at l.count _ _ (left l.more t l.at l.r) behind l.invariant.0.reached one_read in
     let fits = answers_fit t c.args.state.now c.args.answers.now c.requires in
     omega (arith, room_left, fits, l.invariant.0.taken.size)
@@ -68,18 +68,18 @@ overflow_add-count c =
     let n = c.next-a in
     let behind : Remaining = after t l.at l.r n.result in
     let one_read =
-    next_one t l.at l.r n.result n.ensures c.taken-d.result c.taken-d.ensures _ c.in-Known.is l.more c.loop-more-test.true in
+    next_one t l.at l.r n.result n.ensures c.taken.result c.taken.ensures _ c.in-Some.is l.more c.loop-more-test.true in
     let room_left : l.count < room t = more_room t l.at l.count _ _ (left l.more t l.at l.r) behind l.invariant.0.reached one_read in
     omega (arith, room_left, commands_room t)
 
-pub loop-more-preserved : goal.loop-more-preserved
-loop-more-preserved c =
+pub loop-more-preserved-in-Some : goal.loop-more-preserved-in-Some
+loop-more-preserved-in-Some c =
     let t = c.args.text.now in
     let l = c.loop-more in
     let n = c.next-a in
     let behind : Remaining = after t l.at l.r n.result in
     let one_read =
-    next_one t l.at l.r n.result n.ensures c.taken-d.result c.taken-d.ensures _ c.in-Known.is l.more c.loop-more-test.true in
+    next_one t l.at l.r n.result n.ensures c.taken.result c.taken.ensures _ c.in-Some.is l.more c.loop-more-test.true in
     let went = c.step-o.ensures in (
       replayed_more l.invariant.0 n.ensures.within one_read went.state_is c.put_answer.ensures (same_bytes_lem went.says),
       went.going,
