@@ -1,42 +1,32 @@
--- One count of a handover, by the tests of the code: the same core or none before it, a cell at its top, a cell raised.
--- Assumes nothing.
-use Prim.Native.Nat.{ℕ, suc, pred, ◌+◌, ◌-◌, ◌<◌, ◌≤◌}
-use mathlib.Core.Path.{◌≡◌, sym, ◌∙◌, ap}
+-- One count of a handover, by the tests of the code: no core held the request, the same core did, another did. Assumes nothing.
+use Prim.Native.Nat.{ℕ, suc, ◌+◌, ◌≤◌, min}
+use mathlib.Core.Path.{◌≡◌, refl, sym, ◌∙◌, ap}
 use mathlib.Core.Logic.{◌≢◌}
-use mathlib.Core.List.{[]}
 use mathlib.Core.Bool.{true, and-false}
 use lib.ListN.{set}
-use lib.Seq.{set-get_or}
 use native.Mathlib.Omega.{arith}
-use native.Mathlib.Numerals.{add-one}
-use borrow.Author.Tests.{eq-eqb, ne_eqb, lt-ltb, le-ltb}
-use Rattle.lists.proofs.Bools.{and_in, not_in}
-use Rattle.routines.specs.Routines.{Handovers, row_at, cell_at, most_handovers, handed_over, counted}
+use borrow.Author.Tests.{eq-eqb, ne_eqb, lt-ltb}
+use Rattle.std.proofs.Common.{Option, Some, None}
+use Rattle.lists.proofs.Held.{held_by_lem}
+use Rattle.model.specs.declared.CoreId.{CoreId}
+use Rattle.routines.specs.Routines.{holder_number, Handovers, row_at, cell_at, most_handovers, counted}
 
-module _ (t : Handovers) (holder k : ℕ) where
-  pub none_before : holder ≡ 0 → t ≡ counted t holder k
+module _ (t : Handovers) {from : Option CoreId} (to : ℕ) where
+  pub no_core : from ≡ None → t ≡ counted t (holder_number from) to
   unfolding counted
-  none_before e = rw e
+  no_core e = rw e refl
 
-  pub same_core : holder ≡ k + 1 → t ≡ counted t holder k
-  unfolding counted
-  same_core e = rw (eq-eqb holder (suc k) (omega arith), and-false)
-
-  module _ (some : holder ≢ 0) (other : holder ≢ k + 1) where
-    row : pred holder ≡ holder - 1
-    row = omega arith
-
-    over : handed_over holder k ≡ true
-    over = and_in (lt-ltb 0 holder (omega arith)) (not_in (ne_eqb holder (suc k) (omega arith)))
-
-    pub raised_cell :
-        cell_at t (holder - 1) k < most_handovers →
-        set t (holder - 1) (set (row_at t (holder - 1)) k (cell_at t (holder - 1) k + 1)) ≡ counted t holder k
+  module _ {held : CoreId} (e : from ≡ Some held) where
+    pub same_core : held.0 ≡ to → t ≡ counted t (holder_number from) to
     unfolding counted
-    raised_cell h = rw (add-one (cell_at t (holder - 1) k), over, row, lt-ltb (cell_at t (holder - 1) k) most_handovers h)
+    same_core same = rw (e, eq-eqb (suc held.0) (suc to) (ap suc same), and-false) refl
 
-    pub full_cell : most_handovers ≤ cell_at t (holder - 1) k → t ≡ counted t holder k
+    pub other_core :
+        held.0 ≢ to → cell_at t held.0 to ≤ most_handovers → {v : ℕ} → v ≡ min (cell_at t held.0 to + 1) most_handovers →
+        set t held.0 (set (row_at t held.0) to v) ≡ counted t (holder_number from) to
     unfolding counted
-    full_cell h =
-        rw (over, row, le-ltb (cell_at t (holder - 1) k) most_handovers h)
-        (sym (ap (set t (holder - 1)) (set-get_or (row_at t (holder - 1)) k 0) ∙ set-get_or t (holder - 1) []))
+    other_core other few {v} ev =
+        let more = held_by_lem most_handovers (cell_at t held.0 to) (cell_at t held.0 to) (omega (arith, few)) true in
+        let is : v ≡ min most_handovers (cell_at t held.0 to + 1) = ev ∙ omega arith in
+        rw (e, lt-ltb 0 (suc held.0) (omega arith), ne_eqb (suc held.0) (suc to) (λ z. other (omega (arith, z))))
+        (ap (λ (x : ℕ). set t held.0 (set (row_at t held.0) to x)) (is ∙ sym more))

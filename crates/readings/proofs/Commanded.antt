@@ -203,7 +203,7 @@ stamp_fit n r h = go (level r).known (rises r) (is_readable r) (leb max_commands
         Fit
         (cond (not k) (only (refused 13 n r)) (cond (not v) (only (with_up (is_high r) r))
         (cond (not d) (only (refused 13 n r))
-        (cond x (only (refused 19 n r)) (read_with (with_taken (suc r.taken) (with_up true r)) (strobe_of r)))))).reader
+        (cond x (only (refused 19 n r)) (read_with (with_taken (suc r.taken) (with_up true r)) (Some (strobe_of r))))))).reader
     go false v d x = h
     go true false d x = h
     go true true false x = h

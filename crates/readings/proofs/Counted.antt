@@ -1,4 +1,5 @@
 -- Never more than 65,535 commands: a reader counts each that it gives, and gives none past that (`AtMost65535`). Assumes nothing.
+use Rattle.std.specs.Prelude.{None, Some}
 use Prim.Native.Nat.{ℕ, suc, ◌+◌, ◌≤◌}
 use mathlib.Core.Path.{◌≡◌, refl, sym, ◌∙◌}
 use mathlib.Core.List.{List, [], ◌∷◌}
@@ -12,7 +13,7 @@ use Rattle.recording.specs.declared.Signal.TheVariants.{Cmd}
 use Rattle.recording.specs.declared.Reader.{Reader}
 use Rattle.recording.specs.declared.Read.{Read}
 use Rattle.recording.specs.Words.{Word, words}
-use Rattle.recording.specs.Records.{start, with_up, with_taken, refused, no_strobe, read_with, only}
+use Rattle.recording.specs.Records.{start, with_up, with_taken, refused, read_with, only}
 use Rattle.recording.specs.Stamps.{max_commands, level, is_high, rises, is_readable, strobe_of, commands_of, end_stamp, end_open_stamp}
 use Rattle.recording.specs.Reading.{is_body, is_good, open_stamp, and_then, read_time, read_word, ending, finish, Progress, progress, advance}
 use Rattle.recording.specs.Reading.{read_words, finished, answered, reading}
@@ -32,7 +33,7 @@ unfolding commands_of
 only_counts r x e = record { given = omega arith; bounded = λ h. omega arith }
 
 strobe_counts : (r : Reader) → Fit r → leb max_commands r.taken ≡ false →
-    Counts r (read_with (with_taken (suc r.taken) (with_up true r)) (strobe_of r))
+    Counts r (read_with (with_taken (suc r.taken) (with_up true r)) (Some (strobe_of r)))
 unfolding commands_of strobe_of
 strobe_counts r h e =
     let s = strobe_of r in
@@ -46,7 +47,7 @@ unfolding end_stamp
 end_stamp-counts n r h = go (level r).known (rises r) (is_readable r) (leb max_commands r.taken) refl
   where
     taken : Read
-    taken = read_with (with_taken (suc r.taken) (with_up true r)) (strobe_of r)
+    taken = read_with (with_taken (suc r.taken) (with_up true r)) (Some (strobe_of r))
 
     go : (k v d x : Bool) → leb max_commands r.taken ≡ x →
         Counts r
@@ -83,7 +84,7 @@ module _ (r : Reader) (w : Word) (h : Fit r) where
       then_counts r (end_open_stamp w.at r) (λ r'. open_stamp r' w) (time_kept (end_open_stamp w.at r).reader w)
       (end_open_stamp-counts w.at r h)
 
-  aside_counts : (a : Read) → Aside r a.reader → a.strobe ≡ no_strobe → Counts r a
+  aside_counts : (a : Read) → Aside r a.reader → a.strobe ≡ None → Counts r a
   unfolding commands_of
   aside_counts a (stamp, taken) e =
       record { given = rw e (omega (arith, taken)); bounded = λ b. omega (arith, taken) }

@@ -21,7 +21,7 @@ use Rattle.recording.specs.declared.Read.{Read}
 use Rattle.recording.specs.Words.{is_text, Word}
 use Rattle.recording.specs.Values.{is_decimal, decimal, is_code, code_of, bit_of, value_of, vector_of}
 use Rattle.recording.specs.Records.{variable, at, with_width, with_code, with_vector, with_value, declaring, with_time, with_up, with_taken}
-use Rattle.recording.specs.Records.{refused, fault_with, no_strobe, read_with, only}
+use Rattle.recording.specs.Records.{refused, fault_with, read_with, only}
 use Rattle.recording.specs.Declarations.{signal_of, all_declared, declares}
 use Rattle.recording.specs.Stamps.{max_commands, level, is_high, rises, is_readable, strobe_of, end_stamp, end_open_stamp}
 use Rattle.recording.specs.Reading.{is_body, is_good, out_of_place, is_skipped, read_definition, read_width, read_code, read_name, is_vector}
@@ -49,14 +49,14 @@ abbrev ended : ℕ → Reader → Read
 ended n r =
     cond (r.stamp.opened && unclear r) (only (refused 13 n r))
     (cond (r.stamp.opened && excessive r) (only (refused 19 n r))
-    (cond (r.stamp.opened && rises r) (read_with (with_taken (suc r.taken) (with_up true r)) (strobe_of r))
+    (cond (r.stamp.opened && rises r) (read_with (with_taken (suc r.taken) (with_up true r)) (Some (strobe_of r)))
     (cond r.stamp.opened (only (with_up (is_high r) r)) (only r))))
 
 pub end_open_stamp-ended : (n : ℕ) (r : Reader) → end_open_stamp n r ≡ ended n r
 unfolding end_stamp end_open_stamp
 end_open_stamp-ended n r =
     in_order r.stamp.opened (level r).known (rises r) (is_readable r) (leb max_commands r.taken) (only (refused 13 n r))
-    (only (refused 19 n r)) (read_with (with_taken (suc r.taken) (with_up true r)) (strobe_of r)) (only (with_up (is_high r) r)) (only r)
+    (only (refused 19 n r)) (read_with (with_taken (suc r.taken) (with_up true r)) (Some (strobe_of r))) (only (with_up (is_high r) r)) (only r)
 
 -- the fault of a stamp's end, before anything else
 abbrev stamp_fault : ℕ → Reader → Fault
@@ -72,7 +72,7 @@ by_ends P false false true o a b t u i pa pb pt pu pi = pt
 by_ends P false false false true a b t u i pa pb pt pu pi = pu
 by_ends P false false false false a b t u i pa pb pt pu pi = pi
 
-ended_fault : (p q s o : Bool) (n : ℕ) (r t : Reader) (c : Strobe) → t.fault ≡ r.fault → (u : Reader) → u.fault ≡ r.fault →
+ended_fault : (p q s o : Bool) (n : ℕ) (r t : Reader) (c : Option Strobe) → t.fault ≡ r.fault → (u : Reader) → u.fault ≡ r.fault →
     (cond p (only (refused 13 n r)) (cond q (only (refused 19 n r)) (cond s (read_with t c) (cond o (only u) (only r))))).reader.fault ≡
     cond p (fault_with 13 n) (cond q (fault_with 19 n) r.fault)
 ended_fault true q s o n r t c e u e' = refl
@@ -85,12 +85,12 @@ pub end_open_stamp-fault : (n : ℕ) (r : Reader) → (end_open_stamp n r).reade
 end_open_stamp-fault n r =
     ap (λ (a : Read). a.reader.fault) (end_open_stamp-ended n r) ∙
     ended_fault (r.stamp.opened && unclear r) (r.stamp.opened && excessive r) (r.stamp.opened && rises r) r.stamp.opened n r
-    (with_taken (suc r.taken) (with_up true r)) (strobe_of r) refl (with_up (is_high r) r) refl
+    (with_taken (suc r.taken) (with_up true r)) (Some (strobe_of r)) refl (with_up (is_high r) r) refl
 
 -- a command exactly at a strobe that shows neither
-ended_strobe : (o p q s : Bool) (a b u i : Reader) (t : Reader) (c : Strobe) →
+ended_strobe : (o p q s : Bool) (a b u i : Reader) (t : Reader) (c : Option Strobe) →
     (cond (o && p) (only a) (cond (o && q) (only b) (cond (o && s) (read_with t c) (cond o (only u) (only i))))).strobe ≡
-    cond (o && s && not p && not q) c no_strobe
+    cond (o && s && not p && not q) c None
 ended_strobe true true q true a b u i t c = refl
 ended_strobe true true q false a b u i t c = refl
 ended_strobe true false true true a b u i t c = refl
@@ -104,7 +104,7 @@ unfolding taken_at
 end_open_stamp-strobe n r =
     ap (λ (a : Read). a.strobe) (end_open_stamp-ended n r) ∙
     ended_strobe r.stamp.opened (unclear r) (excessive r) (rises r) (refused 13 n r) (refused 19 n r) (with_up (is_high r) r) r
-    (with_taken (suc r.taken) (with_up true r)) (strobe_of r)
+    (with_taken (suc r.taken) (with_up true r)) (Some (strobe_of r))
 
 -- a property of the reader after the end of a stamp, from the five ways in which a stamp can end
 pub by_stamp : (P : Reader → Type 0) (n : ℕ) (r : Reader) → P (refused 13 n r) → P (refused 19 n r) →
@@ -113,7 +113,7 @@ by_stamp P n r pa pb pt pu pi =
     rw end_open_stamp-ended
     (by_ends (λ (a : Read). P a.reader) (r.stamp.opened && unclear r) (r.stamp.opened && excessive r)
     (r.stamp.opened && rises r) r.stamp.opened (only (refused 13 n r)) (only (refused 19 n r))
-    (read_with (with_taken (suc r.taken) (with_up true r)) (strobe_of r)) (only (with_up (is_high r) r)) (only r) pa pb pt pu pi)
+    (read_with (with_taken (suc r.taken) (with_up true r)) (Some (strobe_of r))) (only (with_up (is_high r) r)) (only r) pa pb pt pu pi)
 
 -- the open stamp's time is still there, for the next to be compared with
 later_kept : (n : ℕ) (r : Reader) (t : ℕ) → is_later (end_open_stamp n r).reader t ≡ is_later r t

@@ -229,7 +229,7 @@ module _ (n : ℕ) (l : n < 2 ^ 64) where
           In
           (cond (not k) (only (refused 13 n r)) (cond (not v) (only (with_up (is_high r) r))
           (cond (not d) (only (refused 13 n r))
-          (cond x (only (refused 19 n r)) (read_with (with_taken (suc r.taken) (with_up true r)) (strobe_of r)))))).reader
+          (cond x (only (refused 19 n r)) (read_with (with_taken (suc r.taken) (with_up true r)) (Some (strobe_of r))))))).reader
       go false v d x e = refused_in r h 13 n (omega arith) l
       go true false d x e = h
       go true true false x e = refused_in r h 13 n (omega arith) l

@@ -34,13 +34,10 @@ named_most : (d : Option Command) → length (one_command d) ≤ 1
 named_most None = omega arith
 named_most (Some c) = omega arith
 
-pub strobe_most : (s : Strobe) → length (commands_of s) ≤ 1
+pub strobe_most : (s : Option Strobe) → length (commands_of s) ≤ 1
 unfolding commands_of
-strobe_most s = go s.given
-  where
-    go : (b : Bool) → length (cond b (one_command (command_of s.number s.target s.level)) []) ≤ 1
-    go true = named_most (command_of s.number s.target s.level)
-    go false = omega arith
+strobe_most None = omega arith
+strobe_most (Some s) = named_most (command_of s.number s.target s.level)
 
 taken_opened : (r : Reader) (b o : Bool) → length (commands_of (taken_at (b && o) r)) ≤ cond o 1 0
 unfolding taken_at commands_of

@@ -82,7 +82,7 @@ module _ (n : ℕ) where
   end_moved k r =
       chosen_five (moved_read n) (not (level r).known) (not (rises r)) (not (is_readable r)) (leb max_commands r.taken)
       (only (refused 13 k r)) (only (with_up (is_high r) r)) (only (refused 13 k r)) (only (refused 19 k r))
-      (read_with (with_taken (suc r.taken) (with_up true r)) (strobe_of r))
+      (read_with (with_taken (suc r.taken) (with_up true r)) (Some (strobe_of r)))
 
   open_end_moved : (k : ℕ) (r : Reader) → end_open_stamp (n + k) (moved n r) ≡ moved_read n (end_open_stamp k r)
   unfolding end_open_stamp

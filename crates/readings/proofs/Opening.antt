@@ -19,7 +19,7 @@ use Rattle.recording.specs.declared.Reader.{Reader}
 use Rattle.recording.specs.declared.Read.{Read}
 use Rattle.recording.specs.Words.{is_text, Word}
 use Rattle.recording.specs.Values.{is_decimal, is_code}
-use Rattle.recording.specs.Records.{variable, at, declaring, with_time, refused, no_strobe, read_with, only}
+use Rattle.recording.specs.Records.{variable, at, declaring, with_time, refused, read_with, only}
 use Rattle.recording.specs.Declarations.{signal_of, all_declared, declares}
 use Rattle.recording.specs.Stamps.{end_open_stamp}
 use Rattle.recording.specs.Reading.{is_body, is_good, out_of_place, is_skipped, read_definition, read_width, read_code, read_name, is_vector}
@@ -93,11 +93,11 @@ module _ (r : Reader) (w : Word) where
       go (on g) = rw (good_word r w g) (read_at-aside r.place e)
       go (off g) = rw (bad_word r w g) same
 
-  pub word_quiet : standing r w ≡ false → (read_word r w).strobe ≡ no_strobe
+  pub word_quiet : standing r w ≡ false → (read_word r w).strobe ≡ None
   unfolding taken_at
   word_quiet e = go (flag (is_good r))
     where
-      go : Flag (is_good r) → (read_word r w).strobe ≡ no_strobe
+      go : Flag (is_good r) → (read_word r w).strobe ≡ None
       go (on g) = (strobes_exact r g).0 w ∙ ap (λ (b : Bool). taken_at (b && r.stamp.opened) r) e
       go (off g) = ap (λ (a : Read). a.strobe) (bad_word r w g)
 

@@ -1,6 +1,7 @@
 -- The times of the commands rise: a word at which one is taken either opens a later stamp or ends the reading. Assumes nothing.
 --   times_to_end r ws n    the times of what is read from r on: the words ws, and the end of a text of n bytes
 --   rises                none of them is before the stamp that is open at r, and each is above those before it
+use Rattle.std.specs.Prelude.{Option}
 use Prim.Native.Nat.{ℕ, zero, suc, ◌<◌, ◌≤◌}
 use mathlib.Core.Path.{◌≡◌, refl, sym, ap, ◌∙◌, subst}
 use mathlib.Core.List.{List, [], ◌∷◌, ◌++◌, append-nil, append_assoc, map}
@@ -121,7 +122,7 @@ module _ (r : Reader) (w : Word) (l : List ℕ) (opened : r.stamp.opened ≡ tru
 given_stands : (r : Reader) (w : Word) → length (commands_of (read_word r w).strobe) ≡ 1 → standing r w ≡ true
 unfolding commands_of
 given_stands r w e =
-    confirmed (standing r w) (λ b. omega (arith, e, ap (λ (s : Strobe). length (commands_of s)) (word_quiet r w b)))
+    confirmed (standing r w) (λ b. omega (arith, e, ap (λ (s : Option Strobe). length (commands_of s)) (word_quiet r w b)))
 
 -- no command where no stamp is open
 none_given : (x : ℕ) (cs : List Command) (l : List ℕ) (o : Bool) → length cs ≤ cond o 1 0 → o ≡ false → map (λ (c : Command). x) cs ++ l ≡ l

@@ -14,7 +14,7 @@ use Rattle.recording.specs.declared.Reader.{Reader}
 use Rattle.recording.specs.declared.Strobe.{Strobe}
 use Rattle.recording.specs.Words.{is_text, Word}
 use Rattle.recording.specs.Values.{is_decimal, is_code}
-use Rattle.recording.specs.Records.{variable, fault_with, no_strobe}
+use Rattle.recording.specs.Records.{variable, fault_with}
 use Rattle.recording.specs.Declarations.{signal_of, all_declared, declares}
 use Rattle.recording.specs.Stamps.{max_commands, level, rises, is_readable, strobe_of}
 use Rattle.recording.specs.Reading.{is_body, is_skipped, is_vector, is_scalar, vector_signal, starts_time, is_time, time_of, is_later, is_dump}
@@ -100,5 +100,5 @@ fault_at_end n r =
     (cond (not (is_body r.place)) (fault_with 11 n) r.fault))
 
 -- The command taken where a stamp ends: at a strobe with neither 13 nor 19, whatever else the word is.
-unfoldable pub taken_at : Bool → Reader → Strobe
-taken_at ends r = cond (ends && rises r && not (unclear r) && not (excessive r)) (strobe_of r) no_strobe
+unfoldable pub taken_at : Bool → Reader → Option Strobe
+taken_at ends r = cond (ends && rises r && not (unclear r) && not (excessive r)) (Some (strobe_of r)) None

@@ -3,7 +3,7 @@
 --   start             the reader before the first word
 --   variable r s      what a reader holds of a variable
 --   refused n at r    the reader with a fault; a reader that has one stays as it is
-use Rattle.std.specs.Prelude.{ℕ, Bool, true, false}
+use Rattle.std.specs.Prelude.{ℕ, Bool, true, false, Option, None}
 use Rattle.recording.specs.declared.Place.{Place}
 use Rattle.recording.specs.declared.Place.TheVariants.{Definition}
 use Rattle.recording.specs.declared.Signal.{Signal}
@@ -111,15 +111,12 @@ refused number offset r =
 
 -- ---- what a word does
 
-abbrev pub strobe_with : Bool → ℕ → ℕ → ℕ → Strobe
-strobe_with given number target level = record { given = given; number = number; target = target; level = level }
+abbrev pub strobe_with : ℕ → ℕ → ℕ → Strobe
+strobe_with number target level = record { number = number; target = target; level = level }
 
-abbrev pub no_strobe : Strobe
-no_strobe = strobe_with false 0 0 0
-
-abbrev pub read_with : Reader → Strobe → Read
+abbrev pub read_with : Reader → Option Strobe → Read
 read_with r s = record { reader = r; strobe = s }
 
 -- no command is taken
 abbrev pub only : Reader → Read
-only r = read_with r no_strobe
+only r = read_with r None

@@ -4,7 +4,7 @@
 -- a priority use prio"; request 1/14, numbers 13 and 19.
 --   end_stamp at r        the end of the open stamp, shown at an offset: 13, then 19, then perhaps a command
 --   end_open_stamp at r    the same if a time was read; a text without a time has no stamp
-use Rattle.std.specs.Prelude.{ℕ, suc, Bool, true, not, ◌&&◌, ◌||◌, cond, List, [], leb, eqb}
+use Rattle.std.specs.Prelude.{ℕ, suc, Bool, true, not, ◌&&◌, ◌||◌, cond, List, [], leb, eqb, Option, Some, None}
 use Rattle.model.specs.declared.Command.{Command}
 use Rattle.layout.specs.Commands.{command_of}
 use Rattle.layout.specs.Bytes.{one_command}
@@ -76,12 +76,13 @@ is_readable r =
 
 unfoldable pub strobe_of : Reader → Strobe
 strobe_of r =
-    strobe_with true (command_value r).number (target_value r).number
+    strobe_with (command_value r).number (target_value r).number
     (cond (uses_priority (command_value r).number) (level_value r).number 0)
 
 -- The command of a strobe, none if there is none. cmd has three bits, so a strobe's number is 0 to 7 and names one.
-unfoldable pub commands_of : Strobe → List Command
-commands_of s = cond s.given (one_command (command_of s.number s.target s.level)) []
+unfoldable pub commands_of : Option Strobe → List Command
+commands_of None = []
+commands_of (Some s) = one_command (command_of s.number s.target s.level)
 
 -- ---- the end of a stamp
 
@@ -91,7 +92,7 @@ end_stamp at r =
     (cond (not (rises r)) (only (with_up (is_high r) r))
     (cond (not (is_readable r)) (only (refused not_known at r))
     (cond (leb max_commands r.taken) (only (refused too_many at r))
-    (read_with (with_taken (suc r.taken) (with_up true r)) (strobe_of r)))))
+    (read_with (with_taken (suc r.taken) (with_up true r)) (Some (strobe_of r))))))
 
 unfoldable pub end_open_stamp : ℕ → Reader → Read
 end_open_stamp at r = cond r.stamp.opened (end_stamp at r) (only r)

@@ -104,20 +104,19 @@ pub struct Reader {
 }
 
 // The command that is taken where a stamp ends, as three numbers: its own, 0 to 7; the id or the core; and the priority, 0 where it
-// has none. Not given: all are 0.
+// has none.
 #[derive(Clone, Copy)]
 pub struct Strobe {
-    pub given: bool,
     pub number: u16,
     pub target: u16,
     pub level: u16,
 }
 
-// What a word does: the reader after it, and the command taken at it.
+// What a word does: the reader after it, and the command taken at it, if there is one.
 #[derive(Clone, Copy)]
 pub struct Read {
     pub reader: Reader,
-    pub strobe: Strobe,
+    pub strobe: Option<Strobe>,
 }
 
 // What a call for hosts answers: the number of the first fault, or 2 or 255, 0 for none; how many commands it wrote or answered; the

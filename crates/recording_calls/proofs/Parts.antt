@@ -1,22 +1,18 @@
 -- What is yet to be read of a text, a part at a time. Assumes nothing.
 --   advanced, ended      a part up to a command, and the end of the text (`Continues`)
---   none_given, some_given    the command of a strobe
---   next_none, next_one  what is left where a part gives no command, and where it gives one
+--   due                  a number that falls with each part
 --   whole_reading, whole_times    what is left before the first word is the whole reading
-use Prim.Native.Nat.{ℕ, ◌<◌, ◌≤◌}
+use Prim.Native.Nat.{ℕ, ◌+◌, ◌-◌, ◌<◌, ◌≤◌}
 use mathlib.Core.Path.{◌≡◌, refl, sym, ap, ◌∙◌}
-use mathlib.Core.List.{List, [], ◌∷◌, ◌++◌, map, append-nil, append_assoc}
-use mathlib.Core.Bool.{Bool, true, false, not, cond}
+use mathlib.Core.List.{List, [], ◌++◌, map, append-nil, append_assoc}
+use mathlib.Core.Bool.{Bool, cond}
 use native.Mathlib.Omega.{arith}
 use lib.ListN.{length, drop_of_length-le}
-use lib.Dec.{ltb}
-use borrow.Author.Tests.{lt-ltb, le-ltb, not-true, not-false}
+use borrow.Author.Tests.{lt-ltb, le-ltb}
+use Rattle.std.specs.Bool.{then_some}
 use Rattle.model.specs.declared.Command.{Command}
 use Rattle.std.specs.Prelude.{Option, Some, None}
-use Rattle.layout.specs.Bytes.{one_command}
-use Rattle.layout.specs.Commands.{command_of}
 use Rattle.recording.specs.declared.Reader.{Reader}
-use Rattle.recording.specs.declared.Strobe.{Strobe}
 use Rattle.recording.specs.declared.Read.{Read}
 use Rattle.recording.specs.Words.{Word, cut}
 use Rattle.recording.specs.Records.{start}
@@ -26,16 +22,7 @@ use Rattle.recording.specs.Reading.{times_at, times_from, times_of}
 use Rattle.vcd_reader.specs.Advances.{words_from, Advances}
 use Rattle.vcd_reader.specs.declared.Advanced.{Advanced}
 use Rattle.readings.proofs.Cutting.{read_words-commands}
-use Rattle.recording_calls.specs.Remaining.{Remaining, remaining_with, to_end, remaining, left, before, Continues}
-
-module _ (s : Strobe) where
-  pub none_given : not s.given ≡ true → one_command None ≡ commands_of s
-  unfolding commands_of
-  none_given e = rw (not-true s.given e)
-
-  pub some_given : (d : Option Command) → not s.given ≡ false → d ≡ command_of s.number s.target s.level → one_command d ≡ commands_of s
-  unfolding commands_of
-  some_given d e ed = rw (not-false s.given e, ed)
+use Rattle.recording_calls.specs.Remaining.{Remaining, remaining_with, to_end, remaining, to_come, before, Continues}
 
 module _ (t : List ℕ) (at : ℕ) (r : Reader) (a : Advanced) where
   -- ---- up to a command
@@ -74,7 +61,7 @@ module _ (t : List ℕ) (at : ℕ) (r : Reader) (a : Advanced) where
           moves = h.moves;
           reads =
               advance_remaining ∙
-              sym (ap (λ (b : Bool). before a.strobe a.time (left b t a.end a.reader)) (lt-ltb at (length t) less));
+              sym (ap (λ (b : Bool). before a.strobe a.time (to_come t (then_some b a.end) a.reader)) (lt-ltb at (length t) less));
         }
 
   -- ---- the end of the text
@@ -105,25 +92,11 @@ module _ (t : List ℕ) (at : ℕ) (r : Reader) (a : Advanced) where
           reads = end_remaining f e ∙ rw (le-ltb at (length t) ends, er, es, et);
         }
 
-  -- ---- the command of a part
+-- ---- the parts that are yet to be read are no more than this number, which falls with each
 
-  abbrev pub after : Remaining
-  after = left (ltb at (length t)) t a.end a.reader
-
-  module _ (h : Continues t at r a) (d : Option Command) (e : one_command d ≡ commands_of a.strobe) where
-    abbrev with_commands : List Command → Remaining
-    with_commands cs = remaining_with (cs ++ after.commands) (map (λ (c : Command). a.time) cs ++ after.times) after.reader
-
-    by : {x : Option Command} → d ≡ x → (more : Bool) → more ≡ true → left more t at r ≡ with_commands (one_command x)
-    by f more on = ap (λ (b : Bool). left b t at r) on ∙ h.reads ∙ ap with_commands (sym e ∙ ap one_command f)
-
-    pub next_none : d ≡ None → (more : Bool) → more ≡ true → left more t at r ≡ after
-    next_none f more on = by f more on
-
-    pub next_one :
-        (c : Command) → d ≡ Some c → (more : Bool) → more ≡ true →
-        left more t at r ≡ remaining_with (c ∷ after.commands) (a.time ∷ after.times) after.reader
-    next_one c f more on = by f more on
+abbrev pub due : List ℕ → Option ℕ → ℕ
+due t (Some at) = (length t - at) + 1
+due t None = 0
 
 -- ---- the whole text
 

@@ -1,8 +1,11 @@
 -- What is yet to be read of a text. Helpers of contracts; nothing here needs to be believed. Assumes nothing.
 --   remaining t at r       from an offset between two words on, to the text's end and with it
---   left more t at r       the same, or nothing where the end is read
+--   to_come t at r         the same from where the text is read next
+--   Inside t at            that lies in the text
 --   Continues t at r a     a part of it is read, up to a command or the end
-use Rattle.std.specs.Prelude.{ℕ, ◌<◌, ◌≤◌, ◌≡◌, List, [], ◌++◌, map, Bool, cond, length, ltb}
+--   Takes t q o at r       from what is yet to be read a command is taken, if one is to come
+use Rattle.std.specs.Prelude.{ℕ, ◌<◌, ◌≤◌, ◌≡◌, List, [], ◌∷◌, ◌++◌, map, length, ltb, Option, Some, None}
+use Rattle.std.specs.Bool.{then_some}
 use Rattle.model.specs.declared.Command.{Command}
 use Rattle.recording.specs.declared.Reader.{Reader}
 use Rattle.recording.specs.declared.Strobe.{Strobe}
@@ -29,16 +32,28 @@ to_end n p times =
 unfoldable pub remaining : List ℕ → ℕ → Reader → Remaining
 remaining t at r = to_end (length t) (read_words (progress r []) (words_from t at)) (times_from r (words_from t at))
 
-abbrev pub left : Bool → List ℕ → ℕ → Reader → Remaining
-left more t at r = cond more (remaining t at r) (remaining_with [] [] r)
+-- From where the text is read next; None: its end is read.
+abbrev pub to_come : List ℕ → Option ℕ → Reader → Remaining
+to_come t (Some at) r = remaining t at r
+to_come t None r = remaining_with [] [] r
+
+abbrev pub Inside : List ℕ → Option ℕ → Type 0
+Inside t (Some at) = at ≤ length t
+Inside t None = Unit {0}
+
+-- A command with its time, if one is to come, is taken from what is yet to be read, and the rest is to come from there on.
+abbrev pub Takes : List ℕ → Remaining → Option (ℕ × Command) → Option ℕ → Reader → Type 0
+Takes t q (Some x) at r =
+    let rest = to_come t at r in q ≡ remaining_with (x.1 ∷ rest.commands) (x.0 ∷ rest.times) rest.reader
+Takes t q None at r = q ≡ remaining_with [] [] r
 
 -- The command of a strobe, if it gives one, before others.
-abbrev pub before : Strobe → ℕ → Remaining → Remaining
+abbrev pub before : Option Strobe → ℕ → Remaining → Remaining
 before s time q = remaining_with (commands_of s ++ q.commands) (map (λ (c : Command). time) (commands_of s) ++ q.times) q.reader
 
--- At the end of the words the end of the text is read.
+-- A part up to a command, or up to the end of the words, where the end of the text is read next.
 pub record Continues (t : List ℕ) (at : ℕ) (r : Reader) (a : Advanced) : Type 0 where
   pub within : a.end ≤ length t
   pub forth : at ≤ a.end
   pub moves : at < length t → at < a.end
-  pub reads : remaining t at r ≡ before a.strobe a.time (left (ltb at (length t)) t a.end a.reader)
+  pub reads : remaining t at r ≡ before a.strobe a.time (to_come t (then_some (ltb at (length t)) a.end) a.reader)

@@ -8,12 +8,17 @@ ghost use Rattle.layout.specs.Bytes.{one_command};
 ghost use Rattle.recording.specs.Stamps.{max_commands, commands_of};
 ghost use Rattle.recording.specs.Reading.{is_good};
 ghost use Rattle.recording.specs.Calls.{report_with, no_room, read_call, fits_read, DoesRead, replay_call, fits_replay, DoesReplay};
-ghost use Rattle.recording_calls.specs.Remaining.{Continues};
+ghost use Rattle.recording.specs.Records.{start};
+ghost use Rattle.recording_calls.specs.Remaining.{to_come, Inside, Continues, Takes};
 
+use layout::{COMMAND_SIZE, STATE_SIZE, UNREADABLE};
 use model::{CORES, Command, SOURCES};
 use recording::{Reader, Report, Strobe};
 use vcd_reader::{Advanced, advancing};
 use vcd_words::{readers, words};
+
+// As many commands as a recording's report can count: `max_commands`.
+const MAX_COMMANDS: usize = 65535;
 
 // ---- what a call answers
 
@@ -30,42 +35,48 @@ fn report_with(number: u8, count: u16, offset: u64) -> Report
 fn no_room() -> Report
     ensures { result ≡ no_room }
 {
-    report_with(255, 0, 0)
+    report_with(UNREADABLE as u8, 0, 0)
 }
 
 // After the end of a text of this length, with as many commands.
 fn report_of(r: Reader, count: u16, length: u64) -> Report
     ensures { result ≡ report_with r.fault.number count (cond (is_good r) length r.fault.offset) }
 {
-    if r.fault.number == 0 {
-        return report_with(r.fault.number, count, length);
-    }
-    report_with(r.fault.number, count, r.fault.offset)
+    let offset = if r.fault.number == 0 {
+        length
+    } else {
+        r.fault.offset
+    };
+    report_with(r.fault.number, count, offset)
 }
 
 // The commands that a text of this length is to have room for.
 fn room(length: usize) -> usize
     ensures { result ≡ min max_commands length }
 {
-    if length < 65535 {
-        return length;
-    }
-    65535
+    length.min(MAX_COMMANDS)
 }
 
 // ---- one command after another
 
+// The commands of a text: where it is read next, between two words, and what the reader holds there. None: the end is read, too, which
+// ends a stamp as well.
+#[derive(Drop)]
+struct CommandReader<'a> {
+    text: &'a [u8],
+    at: Option<usize>,
+    reader: Reader,
+}
+
 // The command of a strobe, none if there is none.
-fn taken(s: Strobe) -> Option<Command>
+fn taken(s: Option<Strobe>) -> Option<Command>
     ensures { one_command result ≡ commands_of s }
 {
-    if !s.given {
-        return None;
-    }
+    let s = s?;
     decoding::command(s.number, s.target, s.level)
 }
 
-// Reads on to the next command, and from the last word's end to the end of the text, which ends a stamp as well.
+// Reads on to the next command, and from the last word's end to the end of the text.
 #[inline(always)]
 fn next(text: &[u8], at: usize, r: Reader) -> Advanced
     requires { at ≤ length text.now }
@@ -75,14 +86,44 @@ fn next(text: &[u8], at: usize, r: Reader) -> Advanced
         return advancing::advance(text, at, r);
     }
     let last = words::finish(r, text.len() as u64);
-    let reader = last.reader;
-    let strobe = last.strobe;
-    let time = r.stamp.time;
     Advanced {
-        reader,
+        reader: last.reader,
         end: at,
-        strobe,
-        time,
+        strobe: last.strobe,
+        time: r.stamp.time,
+    }
+}
+
+impl<'a> CommandReader<'a> {
+    // Before the first word.
+    fn new(text: &'a [u8]) -> CommandReader<'a>
+        ensures { (result.text.now ≡ text.now) × (result.at ≡ Some 0) × (result.reader ≡ start) }
+    {
+        CommandReader {
+            text,
+            at: Some(0),
+            reader: readers::start(),
+        }
+    }
+
+    // The next command and its time, if one is to come.
+    #[inline(always)]
+    fn next_command(&mut self) -> Option<(u64, Command)>
+        requires { Inside self.old.text.now self.old.at }
+        ensures text { self.new.text.now ≡ self.old.text.now }
+        ensures inside { Inside self.new.text.now self.new.at }
+        ensures takes { Takes self.old.text.now (to_come self.old.text.now self.old.at self.old.reader) result
+            self.new.at self.new.reader }
+    {
+        while let Some(at) = self.at {
+            let a = next(self.text, at, self.reader);
+            self.reader = a.reader;
+            self.at = (at < self.text.len()).then_some(a.end);
+            if let Some(c) = taken(a.strobe) {
+                return Some((a.time, c));
+            }
+        }
+        None
     }
 }
 
@@ -94,22 +135,14 @@ fn read_all(text: &[u8], commands: &mut [u8], times: &mut [u64]) -> Report
     ensures { DoesRead result commands.new times.new
         (read_call text.now commands.old times.old) }
 {
-    let mut r = readers::start();
-    let mut at = 0;
+    let mut source = CommandReader::new(text);
     let mut count = 0;
-    let mut more = true;
-    while more {
-        more = at < text.len();
-        let a = next(text, at, r);
-        r = a.reader;
-        at = a.end;
-        if let Some(c) = taken(a.strobe) {
-            encoding::put_command(commands, 5 * count, c);
-            times[count] = a.time;
-            count += 1;
-        }
+    while let Some((time, c)) = source.next_command() {
+        encoding::put_command(commands, COMMAND_SIZE * count, c);
+        times[count] = time;
+        count += 1;
     }
-    report_of(r, count as u16, text.len() as u64)
+    report_of(source.reader, count as u16, text.len() as u64)
 }
 
 // The commands of a recording, five bytes each, and the times of the stamps at whose ends they are taken.
@@ -118,10 +151,7 @@ pub fn psic_read(text: &[u8], commands: &mut [u8], times: &mut [u64]) -> Report
         (read_call text.now commands.old times.old) }
 {
     let most = room(text.len());
-    if commands.len() < 5 * most {
-        return no_room();
-    }
-    if times.len() < most {
+    if commands.len() < COMMAND_SIZE * most || times.len() < most {
         return no_room();
     }
     read_all(text, commands, times)
@@ -144,22 +174,14 @@ fn replay_all(n: u16, m: u16, text: &[u8], state: &mut [u8], answers: &mut [u8])
     let mut keys = [0; CORES];
     let mut ranks = [0; SOURCES];
     let sound = steps::begin(state, &mut keys, &mut ranks);
-    let mut r = readers::start();
-    let mut at = 0;
+    let mut source = CommandReader::new(text);
     let mut count = 0;
-    let mut more = true;
-    while more {
-        more = at < text.len();
-        let a = next(text, at, r);
-        r = a.reader;
-        at = a.end;
-        if let Some(c) = taken(a.strobe) {
-            let o = steps::step(state, &mut keys, &mut ranks, sound, c);
-            encoding::put_answer(answers, 5 * count, o.number, o.id, o.cycles);
-            count += 1;
-        }
+    while let Some((_, c)) = source.next_command() {
+        let o = steps::step(state, &mut keys, &mut ranks, sound, c);
+        encoding::put_answer(answers, COMMAND_SIZE * count, o.number, o.id, o.cycles);
+        count += 1;
     }
-    report_of(r, count as u16, text.len() as u64)
+    report_of(source.reader, count as u16, text.len() as u64)
 }
 
 // The state after the replay of a recording from a fresh controller of n sources and m cores, and its answers, five bytes each. It goes
@@ -168,10 +190,7 @@ pub fn psic_replay(n: u16, m: u16, text: &[u8], state: &mut [u8], answers: &mut 
     ensures { DoesReplay result state.new answers.new
         (replay_call n m text.now state.old answers.old) }
 {
-    if state.len() != layout::STATE_SIZE {
-        return no_room();
-    }
-    if answers.len() < 5 * room(text.len()) {
+    if state.len() != STATE_SIZE || answers.len() < COMMAND_SIZE * room(text.len()) {
         return no_room();
     }
     replay_all(n, m, text, state, answers)

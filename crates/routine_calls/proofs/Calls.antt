@@ -1,14 +1,15 @@
 -- What each call answers and writes, from what the functions that it calls hand back. Assumes nothing.
---   bad_state, bad_active, bad_holder        a length that doesn't fit
---   make_unfit, make_refused, make_done      `make_routines_call`
---   call_unread, call_went                   `routine_call`
+--   make_unfit, make_refused, make_done    `make_routines_call`
+--   call_unread, call_went                 `routine_call`
 use Prim.Native.Nat.{ℕ, ◌+◌, ◌*◌}
 use mathlib.Core.Path.{◌≡◌, refl, ◌∙◌, subst}
+use mathlib.Core.Logic.{◌≢◌}
 use mathlib.Core.List.{List}
 use mathlib.Core.Bool.{Bool, true, false, and-false}
 use lib.ListN.{length, replicate}
 use native.Mathlib.Omega.{arith}
 use borrow.Author.Tests.{eq-eqb, ne_eqb}
+use Rattle.std.proofs.Common.{◌⊎◌, inl, inr}
 use Rattle.lists.proofs.Bools.{and_in}
 use Rattle.model.specs.declared.Answer.{Answer}
 use Rattle.model.specs.Records.{max_sources, max_cores}
@@ -24,18 +25,19 @@ use Rattle.routine_steps.specs.Simulated.{taken_from, Says, Went}
 module _ (b active holder : List ℕ) where
   -- ---- making
 
-  pub bad_state : (length b ≡ state_size → ⊥) → fits_make b active holder ≡ false
-  bad_state h = rw (ne_eqb _ _ h)
+  unfit :
+      (length b ≢ state_size) ⊎ ((length b ≡ state_size × (length active ≢ max_cores)) ⊎
+      (length b ≡ state_size × length active ≡ max_cores × (length holder ≢ max_sources))) → fits_make b active holder ≡ false
+  unfit (inl h) = rw (ne_eqb _ _ h)
+  unfit (inr (inl (s, h))) = simp (ne_eqb _ _ h, and-false)
+  unfit (inr (inr (s, a, h))) = simp (ne_eqb _ _ h, and-false)
 
-  pub bad_active : (length active ≡ max_cores → ⊥) → fits_make b active holder ≡ false
-  bad_active h = simp (ne_eqb _ _ h, and-false)
-
-  pub bad_holder : (length holder ≡ max_sources → ⊥) → fits_make b active holder ≡ false
-  bad_holder h = simp (ne_eqb _ _ h, and-false)
-
-  pub make_unfit : (n m : ℕ) → fits_make b active holder ≡ false → DoesCall unreadable b active holder (make_routines_call n m b active holder)
+  pub make_unfit :
+      (n m : ℕ) → (length b ≢ state_size) ⊎ ((length b ≡ state_size × (length active ≢ max_cores)) ⊎
+      (length b ≡ state_size × length active ≡ max_cores × (length holder ≢ max_sources))) →
+      DoesCall unreadable b active holder (make_routines_call n m b active holder)
   unfolding make_routines_call
-  make_unfit n m e = rw e (refl, refl, refl, refl)
+  make_unfit n m h = rw (unfit h) (refl, refl, refl, refl)
 
   -- where the lengths are right
   module _ (n m : ℕ) (eb : length b ≡ state_size) (ea : length active ≡ max_cores) (eh : length holder ≡ max_sources)

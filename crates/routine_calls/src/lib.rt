@@ -3,8 +3,8 @@
 // says and nothing else, whatever it is lent. What can't be read is answered by 255, and every buffer stays as it was.
 #![tactic(auto)]
 
-ghost use Rattle.std.specs.Prelude.{◌≤◌, ◌≡◌, length, replicate};
-ghost use Rattle.model.specs.Records.{max_sources, core_id};
+ghost use Rattle.std.specs.Prelude.{◌≡◌};
+ghost use Rattle.model.specs.Records.{core_id};
 ghost use Rattle.routines.specs.Calls.{DoesCall, make_routines_call, routine_call};
 ghost use Rattle.routines.specs.declared.RoutineCall.TheVariants.{Enter, Exit};
 
@@ -23,13 +23,7 @@ pub fn psic_make_routines(
     ensures { DoesCall result state.new active.new holder.new
         (make_routines_call n m state.old active.old holder.old) }
 {
-    if state.len() != STATE_SIZE {
-        return UNREADABLE;
-    }
-    if active.len() != CORES {
-        return UNREADABLE;
-    }
-    if holder.len() != SOURCES {
+    if state.len() != STATE_SIZE || active.len() != CORES || holder.len() != SOURCES {
         return UNREADABLE;
     }
     let made = commands::make(n, m);
@@ -38,20 +32,9 @@ pub fn psic_make_routines(
     }
     let fresh = made.state;
     encoding::put_state(state, fresh);
-    clear(active);
-    clear(holder);
+    active.fill(0);
+    holder.fill(0);
     0
-}
-
-fn clear(words: &mut [u16])
-    requires { length words.old ≤ max_sources }
-    ensures { words.new ≡ replicate (length words.old) 0 }
-{
-    let mut i = 0;
-    while i < words.len() {
-        words[i] = 0;
-        i += 1;
-    }
 }
 
 // One call on a simulation.

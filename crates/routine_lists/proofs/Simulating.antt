@@ -4,21 +4,22 @@
 --   in_table                    the table's cell is there
 --   kept_by, raised_by, count_fits    the same of what a step answers
 --   simulate_none, simulate_more    no call is taken; one more is taken
---   fit, all_fit, no_memory, no_answers, no_table    whether memory, list, answers and table fit
 --   no_run, simulate_done       what the whole list answers and writes: nothing; a run
 use Prim.Native.Nat.{ℕ, pred, ◌+◌, ◌<◌, ◌≤◌}
 use mathlib.Core.Path.{◌≡◌, refl, sym, ◌∙◌, ap}
 use mathlib.Core.Logic.{◌≢◌}
 use mathlib.Core.List.{List, [], ◌∷◌, ◌++◌}
-use mathlib.Core.Bool.{Bool, true, false, ◌&&◌, cond, and-false}
+use mathlib.Core.Bool.{Bool, true, false, cond}
 use lib.ListN.{length}
 use lib.Seq.{sets}
 use lib.Dec.{eqb}
 use native.Mathlib.Omega.{arith}
 use native.Mathlib.Decide.{ℕ_discrete}
-use borrow.Author.Tests.{eq-eqb, ne_eqb, eqb-true}
-use Rattle.lists.proofs.Bools.{and_l, and_r, and_in, Flag, on, off, flag}
+use borrow.Author.Tests.{eq-eqb, ne_eqb}
+use Rattle.std.proofs.Common.{Option, Some, None, is_some}
+use Rattle.lists.proofs.Bools.{clash, Flag, on, off, flag}
 use Rattle.model.specs.declared.SourceId.{SourceId}
+use Rattle.model.specs.declared.CoreId.{CoreId}
 use Rattle.model.specs.declared.Controller.{Controller}
 use Rattle.model.specs.Records.{max_sources, max_cores, index_of, core_at}
 use Rattle.layout.specs.Bytes.{word, state_bytes, command_size, no_count, room_for}
@@ -28,10 +29,8 @@ use Rattle.layout.proofs.Lists.{room_whole, room_enough, RunTo, Ran, run_none, r
 use Rattle.routines.specs.declared.Routines.{Routines}
 use Rattle.routines.specs.declared.RoutineCall.{RoutineCall}
 use Rattle.routines.specs.declared.RoutineCall.TheVariants.{Direct, Enter, Exit}
-use Rattle.routines.specs.declared.DecodedCall.{DecodedCall}
-use Rattle.routines.specs.declared.DecodedCall.TheVariants.{Unnamed, Named}
-use Rattle.routines.specs.Routines.{call_refusal, call_routine, Handovers, box_holder, counted, table_after}
-use Rattle.routines.specs.Calls.{one_call, call_of, routines_in, is_simulation, table_size, table_in, table_words, DoesSimulate, fits_simulate}
+use Rattle.routines.specs.Routines.{holder_number, call_refusal, call_routine, Handovers, box_holder, counted, table_after}
+use Rattle.routines.specs.Calls.{one_call, call_of, routines_in, table_in, table_words, DoesSimulate, fits_simulate}
 use Rattle.routines.specs.Calls.{simulate_call}
 use Rattle.routine_laws.proofs.Standing.{sound_accepted, enter_checked}
 use Rattle.routine_laws.proofs.Called.{Counting, counting, routines_machine}
@@ -48,12 +47,12 @@ target (Direct id a) = id.0
 target (Enter k) = k.0
 target (Exit k) = k.0
 
-abbrev target_in : DecodedCall → ℕ → ℕ
-target_in Unnamed at = at
-target_in (Named c) at = target c
+abbrev target_in : Option RoutineCall → ℕ → ℕ
+target_in None at = at
+target_in (Some c) at = target c
 
 -- a test decides between calls that name it
-either : (b : Bool) (x y : DecodedCall) (at : ℕ) → target_in x at ≡ at → target_in y at ≡ at → target_in (cond b x y) at ≡ at
+either : (b : Bool) (x y : Option RoutineCall) (at : ℕ) → target_in x at ≡ at → target_in y at ≡ at → target_in (cond b x y) at ≡ at
 either true x y at ex ey = ex
 either false x y at ex ey = ey
 
@@ -102,9 +101,9 @@ module _ (t : Handovers) (s : Routines) where
   taken_entry (Exit k) h = absurd (h refl)
 
   -- by the number that the bytes have for the core
-  module _ (number at p : ℕ) {c : RoutineCall} (named : call_of number at p ≡ Named c) (h : taken_from s c ≢ 0) where
+  module _ (number at p : ℕ) {c : RoutineCall} (named : call_of number at p ≡ Some c) (h : taken_from s c ≢ 0) where
     there : target c ≡ at
-    there = sym (ap (λ (d : DecodedCall). target_in d at) named) ∙ named_target number at p
+    there = sym (ap (λ (d : Option RoutineCall). target_in d at) named) ∙ named_target number at p
 
     pub one_counted : table_after t s c ≡ counted t (taken_from s c) at
     one_counted = (taken_entry c h).0 ∙ ap (counted t (taken_from s c)) there
@@ -112,25 +111,33 @@ module _ (t : Handovers) (s : Routines) where
     pub in_table : (taken_from s c ≤ max_cores) × (at < max_cores)
     in_table = ((taken_entry c h).2, omega (arith, (taken_entry c h).1, there))
 
+none_number : (from : Option CoreId) → is_some from ≡ false → holder_number from ≡ 0
+none_number None e = refl
+none_number (Some k) e = absurd (clash refl e)
+
+some_number : (from : Option CoreId) → is_some from ≡ true → holder_number from ≢ 0
+some_number None e = absurd (clash e refl)
+some_number (Some k) e = λ z. omega (arith, z)
+
 -- the same of what a step answers
 module _
     (b : List ℕ) {active holder : List ℕ} {c : RoutineCall} {sound : Bool} {o : Stepped} {b' active' holder' keys' ranks' : List ℕ}
-    (t : Handovers) (number at p : ℕ) (named : call_of number at p ≡ Named c)
+    (t : Handovers) (number at p : ℕ) (named : call_of number at p ≡ Some c)
     (went : Went (routines_in b active holder) c sound o b' active' holder' keys' ranks') where
-  from_is : o.from ≡ taken_from (routines_in b active holder) c
+  from_is : holder_number o.from ≡ taken_from (routines_in b active holder) c
   from_is = went.says.3
 
-  pub kept_by : {t' : Handovers} → o.from ≡ 0 → t' ≡ t → t' ≡ table_after t (routines_in b active holder) c
-  kept_by e et = et ∙ sym (none_counted t (routines_in b active holder) c (sym from_is ∙ e))
+  pub kept_by : {t' : Handovers} → is_some o.from ≡ false → t' ≡ t → t' ≡ table_after t (routines_in b active holder) c
+  kept_by e et = et ∙ sym (none_counted t (routines_in b active holder) c (sym from_is ∙ none_number o.from e))
 
-  module _ (h : o.from ≢ 0) where
+  module _ (h : is_some o.from ≡ true) where
     some : taken_from (routines_in b active holder) c ≢ 0
-    some z = h (from_is ∙ z)
+    some z = some_number o.from h (from_is ∙ z)
 
-    pub count_fits : (o.from ≤ max_cores) × (at < max_cores)
+    pub count_fits : (holder_number o.from ≤ max_cores) × (at < max_cores)
     count_fits = let (few, inside) = in_table t (routines_in b active holder) number at p named some in (omega (arith, from_is, few), inside)
 
-    pub raised_by : {t' : Handovers} → t' ≡ counted t o.from at → t' ≡ table_after t (routines_in b active holder) c
+    pub raised_by : {t' : Handovers} → t' ≡ counted t (holder_number o.from) at → t' ≡ table_after t (routines_in b active holder) c
     raised_by et =
         et ∙ ap (λ (x : ℕ). counted t x at) from_is ∙ sym (one_counted t (routines_in b active holder) number at p named some)
 
@@ -165,32 +172,6 @@ module _ (b active holder list answers table : List ℕ) where
       DoesSimulate no_count b active holder answers table (simulate_call b active holder list answers table)
   unfolding simulate_call
   no_run e = rw e ((refl, refl, refl, refl), refl, refl)
-
-  pub fit :
-      fits_simulate b active holder list answers table ≡ true →
-      (is_simulation b active holder ≡ true) × (room_for list answers ≡ true) × (length table ≡ table_size)
-  fit e =
-      let there : Bool = is_simulation b active holder in
-      let long : Bool = eqb (length table) table_size in
-      let rest : room_for list answers && long ≡ true = and_r there (room_for list answers && long) e in (
-        and_l there (room_for list answers && long) e,
-        and_l (room_for list answers) long rest,
-        eqb-true _ _ (and_r (room_for list answers) long rest),
-      )
-
-  pub no_memory : is_simulation b active holder ≡ false → fits_simulate b active holder list answers table ≡ false
-  no_memory e = rw e
-
-  pub no_answers : room_for list answers ≡ false → fits_simulate b active holder list answers table ≡ false
-  no_answers e = simp (e, and-false)
-
-  pub no_table : (length table ≡ table_size → ⊥) → fits_simulate b active holder list answers table ≡ false
-  no_table h = simp (ne_eqb _ _ h, and-false)
-
-  pub all_fit :
-      is_simulation b active holder ≡ true → room_for list answers ≡ true → length table ≡ table_size →
-      fits_simulate b active holder list answers table ≡ true
-  all_fit e f g = and_in e (and_in f (eq-eqb _ _ g))
 
   pub simulate_done :
       fits_simulate b active holder list answers table ≡ true →

@@ -8,20 +8,22 @@ ghost use Rattle.routines.specs.Calls.{call_of, DoesSimulate, fits_simulate, sim
 
 use layout::{COMMAND_SIZE, NO_COUNT};
 use model::{CORES, CoreId, SOURCES, SourceId};
-use routines::{DecodedCall, DirectAction, RoutineCall};
+use routines::{DirectAction, RoutineCall};
 
 // The call that three numbers name: a command by its own number, entry by 16, exit by 17.
-fn call_of(number: u16, at: u16, p: u16) -> DecodedCall
+#[tactic(auto, unfolding(routines::specs::Calls::call_of))]
+fn call_of(number: u16, at: u16, p: u16) -> Option<RoutineCall>
     ensures { result ≡ call_of number at p }
 {
+    let direct = |a: DirectAction| Some(RoutineCall::Direct(SourceId(at), a));
     match number {
-        0 => DecodedCall::Named(RoutineCall::Direct(SourceId(at), DirectAction::SetPriority(p))),
-        1 => DecodedCall::Named(RoutineCall::Direct(SourceId(at), DirectAction::Mask)),
-        2 => DecodedCall::Named(RoutineCall::Direct(SourceId(at), DirectAction::Unmask)),
-        4 => DecodedCall::Named(RoutineCall::Direct(SourceId(at), DirectAction::Trigger)),
-        16 => DecodedCall::Named(RoutineCall::Enter(CoreId(at))),
-        17 => DecodedCall::Named(RoutineCall::Exit(CoreId(at))),
-        _ => DecodedCall::Unnamed,
+        0 => direct(DirectAction::SetPriority(p)),
+        1 => direct(DirectAction::Mask),
+        2 => direct(DirectAction::Unmask),
+        4 => direct(DirectAction::Trigger),
+        16 => Some(RoutineCall::Enter(CoreId(at))),
+        17 => Some(RoutineCall::Exit(CoreId(at))),
+        _ => None,
     }
 }
 
@@ -47,16 +49,14 @@ fn simulate_all(
     while i < list.len() {
         let at = decoding::word_at(list, i + 1);
         let read = call_of(list[i] as u16, at, decoding::word_at(list, i + 3));
-        match read {
-            DecodedCall::Unnamed => break,
-            DecodedCall::Named(c) => {
-                let o = routine_steps::step(state, active, holder, &mut keys, &mut ranks, sound, c);
-                encoding::put_answer(answers, i, o.number, o.id, o.cycles);
-                if o.from != 0 {
-                    let raised = handovers::count(counts, o.from, at as usize);
-                    counts = raised;
-                }
-            }
+        let Some(c) = read else {
+            break;
+        };
+        let o = routine_steps::step(state, active, holder, &mut keys, &mut ranks, sound, c);
+        encoding::put_answer(answers, i, o.number, o.id, o.cycles);
+        if o.from.is_some() {
+            let raised = handovers::count(counts, o.from, CoreId(at));
+            counts = raised;
         }
         i += COMMAND_SIZE;
     }
@@ -78,16 +78,11 @@ pub fn psic_simulate(
         (simulate_call state.old active.old holder.old list.now answers.old
         table.old) }
 {
-    if list.len() % COMMAND_SIZE != 0 {
-        return NO_COUNT;
-    }
-    if answers.len() < list.len() {
-        return NO_COUNT;
-    }
-    if table.len() != CORES * CORES {
-        return NO_COUNT;
-    }
-    if !routine_test::is_simulation(state, active, holder) {
+    if list.len() % COMMAND_SIZE != 0
+        || answers.len() < list.len()
+        || table.len() != CORES * CORES
+        || !routine_test::is_simulation(state, active, holder)
+    {
         return NO_COUNT;
     }
     simulate_all(state, active, holder, list, answers, table)

@@ -37,7 +37,7 @@ use Rattle.routines.specs.declared.Routines.{Routines}
 use Rattle.routines.specs.declared.DirectAction.{DirectAction}
 use Rattle.routines.specs.declared.RoutineCall.{RoutineCall}
 use Rattle.routines.specs.declared.RoutineCall.TheVariants.{Direct, Enter, Exit}
-use Rattle.routines.specs.Routines.{with_controller, active_at, action_of, command_of, call_refusal, claim_on, hand_back, entered, complete_on}
+use Rattle.routines.specs.Routines.{holder_number, with_controller, active_at, action_of, command_of, call_refusal, claim_on, hand_back, entered, complete_on}
 use Rattle.routines.specs.Routines.{lower, exited, holder_after, commanded, after_refused_call, refused_call, call_routine}
 use Rattle.routines.specs.Calls.{routines_in}
 use Rattle.routine_laws.proofs.Answered.{call_accepted, call_refused}
@@ -50,7 +50,7 @@ use Rattle.routine_steps.proofs.Numbers.{command_number, direct_number, enter_nu
 
 -- what is answered, by its parts
 abbrev pub Answers : Stepped → ℕ → ℕ → ℕ → ℕ → Type 0
-Answers r number id cycles from = (r.number ≡ number) × (r.id.0 ≡ id) × (r.cycles ≡ cycles) × (r.from ≡ from)
+Answers r number id cycles from = (r.number ≡ number) × (r.id.0 ≡ id) × (r.cycles ≡ cycles) × (holder_number r.from ≡ from)
 
 -- nothing is taken where the call is refused
 pub none_taken : (s : Routines) (c : RoutineCall) → call_refusal s c ≢ 0 → taken_from s c ≡ 0

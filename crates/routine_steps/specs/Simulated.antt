@@ -13,7 +13,7 @@ use Rattle.routines.specs.declared.Routines.{Routines}
 use Rattle.routines.specs.declared.RoutineCall.{RoutineCall}
 use Rattle.routines.specs.declared.RoutineCall.TheVariants.{Direct, Enter, Exit}
 use Rattle.routines.specs.declared.RoutineAnswer.{RoutineAnswer}
-use Rattle.routines.specs.Routines.{sound_routines, SoundRoutines, call_refusal, call_routine, box_holder}
+use Rattle.routines.specs.Routines.{holder_number, sound_routines, SoundRoutines, call_refusal, call_routine, box_holder}
 use Rattle.routines.specs.Calls.{routines_in}
 use Rattle.routine_steps.specs.declared.Stepped.{Stepped}
 
@@ -23,7 +23,7 @@ taken_from s (Enter k) = cond (eqb (call_refusal s (Enter k)) 0) (box_holder s k
 taken_from s (Exit k) = 0
 
 abbrev pub Says : Stepped → RoutineAnswer → ℕ → Type 0
-Says r a from = (r.number ≡ a.number) × (r.id.0 ≡ a.id.0) × (r.cycles ≡ a.cycles) × (r.from ≡ from)
+Says r a from = (r.number ≡ a.number) × (r.id.0 ≡ a.id.0) × (r.cycles ≡ a.cycles) × (holder_number r.from ≡ from)
 
 pub record Standing (b active holder keys ranks : List ℕ) : Type 0 where
   pub held : Held (state_from b) b keys ranks

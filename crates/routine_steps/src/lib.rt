@@ -6,7 +6,7 @@ ghost use Rattle.std.specs.Prelude.{◌<◌, ◌≡◌, true, length};
 ghost use Rattle.model.specs.Records.{max_sources, max_cores};
 ghost use Rattle.layout.specs.Bytes.{is_state, state_from};
 ghost use Rattle.in_place.specs.Steps.{Ready, Leaves};
-ghost use Rattle.routines.specs.Routines.{action_of, hand_back, holder_after};
+ghost use Rattle.routines.specs.Routines.{holder_number, hand_back, holder_after};
 ghost use Rattle.routines.specs.Calls.{routines_in};
 ghost use Rattle.routine_steps.specs.Simulated.{Standing, Did, Running, Went};
 
@@ -15,18 +15,17 @@ use in_place::Outcome;
 use model::{CORES, CoreAction, CoreId, SOURCES, SourceAction, SourceId};
 use routines::{DirectAction, RoutineCall};
 
-// What a call answers besides the simulation, and the last holder, plus one, of the request that an accepted entry takes; 0 for every
-// other call.
+// What a call answers besides the simulation, and the core that last held the request that an accepted entry takes, if one did.
 #[derive(Clone, Copy)]
 pub struct Stepped {
     pub number: u8,
     pub id: SourceId,
     pub cycles: u16,
-    pub from: u16,
+    pub from: Option<CoreId>,
 }
 
-fn answered(number: u8, id: SourceId, cycles: u16, from: u16) -> Stepped
-    ensures { (result.number ≡ number) × (result.id.0 ≡ id.0) × (result.cycles ≡ cycles) × (result.from ≡ from) }
+fn answered(number: u8, id: SourceId, cycles: u16, from: Option<CoreId>) -> Stepped
+    ensures { (result.number ≡ number) × (result.id.0 ≡ id.0) × (result.cycles ≡ cycles) × (holder_number result.from ≡ holder_number from) }
 {
     Stepped {
         number,
@@ -36,16 +35,11 @@ fn answered(number: u8, id: SourceId, cycles: u16, from: u16) -> Stepped
     }
 }
 
-// The controller's own command for a direct action.
-fn command_for(a: DirectAction) -> SourceAction
-    ensures { result ≡ action_of a }
+// The core that a word of the last holders names, if it names one.
+fn holder_from(word: u16) -> Option<CoreId>
+    ensures { holder_number result ≡ word }
 {
-    match a {
-        DirectAction::SetPriority(p) => SourceAction::SetSourcePriority(p),
-        DirectAction::Mask => SourceAction::Mask,
-        DirectAction::Unmask => SourceAction::Unmask,
-        DirectAction::Trigger => SourceAction::Trigger,
-    }
+    word.checked_sub(1).map(CoreId)
 }
 
 // The last holders after an accepted command on source i + 1: a trigger makes a request that nobody has held.
@@ -53,13 +47,8 @@ fn hold_after(holder: &mut [u16], a: DirectAction, i: usize)
     requires { i < length holder.old }
     ensures { holder.new ≡ holder_after a i holder.old }
 {
-    match a {
-        DirectAction::SetPriority(p) => {}
-        DirectAction::Mask => {}
-        DirectAction::Unmask => {}
-        DirectAction::Trigger => {
-            holder[i] = 0;
-        }
+    if let DirectAction::Trigger = a {
+        holder[i] = 0;
     }
 }
 
@@ -77,12 +66,12 @@ fn command(
     ensures { Did (routines_in state.old active.now holder.old) (RoutineCall.Direct id a) result
         state.new active.now holder.new keys.new ranks.new }
 {
-    let o = source_steps::on_source(state, keys, ranks, id, command_for(a));
+    let o = source_steps::on_source(state, keys, ranks, id, a.into());
     if o.number != 0 {
-        return answered(o.number, SourceId(0), 0, 0);
+        return answered(o.number, SourceId(0), 0, None);
     }
     hold_after(holder, a, id.0 as usize - 1);
-    answered(0, SourceId(0), o.cycles, 0)
+    answered(0, SourceId(0), o.cycles, None)
 }
 
 // Listing 1, `if (prev != 0) cpu.redeliver(prev)`.
@@ -123,13 +112,13 @@ fn enter(
 {
     let claimed = core_steps::on_core(state, keys, ranks, core, CoreAction::Claim);
     if claimed.number != 0 {
-        return answered(claimed.number, SourceId(0), 0, 0);
+        return answered(claimed.number, SourceId(0), 0, None);
     }
     let k = core.0 as usize;
     let back = hand_back(state, keys, ranks, active[k]);
     let id = claimed.id;
     let i = id.0 as usize - 1;
-    let from = holder[i];
+    let from = holder_from(holder[i]);
     active[k] = id.0;
     holder[i] = core.0 + 1;
     answered(0, id, claimed.cycles + back.cycles, from)
@@ -149,12 +138,12 @@ fn exit(
         state.new active.new holder.now keys.new ranks.new }
 {
     if !checks::names_core(decoding::word_at(state, 2), core) {
-        return answered(BAD_CORE, SourceId(0), 0, 0);
+        return answered(BAD_CORE, SourceId(0), 0, None);
     }
     let k = core.0 as usize;
     let id = active[k];
     if id == 0 {
-        return answered(NOT_CLAIMED, SourceId(0), 0, 0);
+        return answered(NOT_CLAIMED, SourceId(0), 0, None);
     }
     let completed = source_steps::on_source(
         state,
@@ -165,7 +154,7 @@ fn exit(
     );
     let lowered = core_steps::on_core(state, keys, ranks, core, CoreAction::SetCorePriority(0));
     active[k] = 0;
-    answered(0, SourceId(0), completed.cycles + lowered.cycles, 0)
+    answered(0, SourceId(0), completed.cycles + lowered.cycles, None)
 }
 
 // Whether the simulation is sound; if it is, the numbers of its cores and sources are made.
@@ -204,7 +193,7 @@ pub fn step(
         state.new active.new holder.new keys.new ranks.new }
 {
     if !sound {
-        return answered(MALFORMED, SourceId(0), 0, 0);
+        return answered(MALFORMED, SourceId(0), 0, None);
     }
     match c {
         RoutineCall::Direct(id, a) => command(state, active, holder, keys, ranks, id, a),

@@ -8,7 +8,7 @@
 --   make_routines_call            a fresh simulation
 --   routine_call c               one call; a handover isn't counted
 --   simulate_call                a list of calls, with an answer for each, and the handovers in it counted on in a table
-use Rattle.std.specs.Prelude.{ℕ, ◌+◌, ◌*◌, ◌≡◌, List, [], ◌∷◌, Bool, ◌&&◌, cond, length, get_or, eqb}
+use Rattle.std.specs.Prelude.{ℕ, ◌+◌, ◌*◌, ◌≡◌, List, [], ◌∷◌, Bool, ◌&&◌, cond, length, get_or, eqb, Option, Some, None}
 use Rattle.std.proofs.lemmas.List.Edits.{sets}
 use Rattle.lists.specs.Rows.{joined, tabulated}
 use Rattle.model.specs.Records.{max_sources, max_cores, source_id, core_id}
@@ -19,14 +19,12 @@ use Rattle.routines.specs.declared.DirectAction.TheVariants.{SetPriority, Mask, 
 use Rattle.routines.specs.declared.RoutineCall.{RoutineCall}
 use Rattle.routines.specs.declared.RoutineCall.TheVariants.{Direct, Enter, Exit}
 use Rattle.routines.specs.declared.RoutineAnswer.{RoutineAnswer}
-use Rattle.routines.specs.declared.DecodedCall.{DecodedCall}
-use Rattle.routines.specs.declared.DecodedCall.TheVariants.{Unnamed, Named}
 use Rattle.routines.specs.Routines.{routines_with, make_routines, call_routine, Handovers, run_routines, run_table}
 
 -- ---- a call as three numbers
 
-abbrev pub direct : ℕ → DirectAction → DecodedCall
-direct at a = Named (Direct (source_id at) a)
+abbrev pub direct : ℕ → DirectAction → Option RoutineCall
+direct at a = Some (Direct (source_id at) a)
 
 -- Apart from the commands' numbers.
 abbrev pub enter_number : ℕ
@@ -36,18 +34,18 @@ abbrev pub exit_number : ℕ
 exit_number = 17
 
 -- Set core priority, claim, redeliver and complete are no calls of the simulation.
-unfoldable pub call_of : ℕ → ℕ → ℕ → DecodedCall
+unfoldable pub call_of : ℕ → ℕ → ℕ → Option RoutineCall
 call_of number at p =
     cond (eqb number 0) (direct at (SetPriority p))
     (cond (eqb number 1) (direct at Mask)
     (cond (eqb number 2) (direct at Unmask)
     (cond (eqb number 4) (direct at Trigger)
-    (cond (eqb number enter_number) (Named (Enter (core_id at)))
-    (cond (eqb number exit_number) (Named (Exit (core_id at))) Unnamed)))))
+    (cond (eqb number enter_number) (Some (Enter (core_id at)))
+    (cond (eqb number exit_number) (Some (Exit (core_id at))) None)))))
 
-abbrev pub one_call : DecodedCall → List RoutineCall
-one_call Unnamed = []
-one_call (Named c) = c ∷ []
+abbrev pub one_call : Option RoutineCall → List RoutineCall
+one_call None = []
+one_call (Some c) = c ∷ []
 
 -- The calls in a row of bytes, five each, up to the first that can't be read.
 abbrev pub calls_in : List ℕ → List RoutineCall

@@ -10,7 +10,7 @@
 --   table_after t s c      the table of handovers after a call on s: the row is the core that held the request, the column the one that
 --                         claims it
 --   run_routines, run_table the state and the table after a list of calls, refused ones included
-use Rattle.std.specs.Prelude.{ℕ, suc, pred, ◌+◌, ◌<◌, ◌≤◌, ◌≡◌, List, [], ◌∷◌, Bool, true, not, ◌&&◌, ◌||◌, cond, length, get_or, set, replicate, ltb, leb, eqb}
+use Rattle.std.specs.Prelude.{ℕ, suc, pred, ◌+◌, ◌<◌, ◌≤◌, ◌≡◌, List, [], ◌∷◌, Bool, true, not, ◌&&◌, ◌||◌, cond, length, get_or, set, replicate, ltb, leb, eqb, Option, Some, None}
 use Rattle.lists.specs.Numbers.{between, one_more_up_to}
 use Rattle.lists.specs.Walks.{every, tally}
 use Rattle.model.specs.declared.SourceId.{SourceId}
@@ -41,6 +41,11 @@ active_at s k = get_or s.active k 0
 
 abbrev pub holder_at : Routines → ℕ → ℕ
 holder_at s i = get_or s.holder i 0
+
+-- A core, if there is one, by the number that `holder_at` has for it.
+abbrev pub holder_number : Option CoreId → ℕ
+holder_number None = 0
+holder_number (Some k) = suc k.0
 
 abbrev pub routines_with : Controller → List ℕ → List ℕ → Routines
 routines_with c active holder = record { controller = c; active = active; holder = holder }

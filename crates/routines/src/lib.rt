@@ -2,7 +2,7 @@
 // Document 02, 4/14; source document 002, Listing 1.
 #![tactic(auto)]
 
-use model::{CORES, Controller, CoreId, SOURCES, SourceId};
+use model::{CORES, Controller, CoreId, SOURCES, SourceAction, SourceId};
 
 // The controller, and what the entry code keeps beside it.
 #[derive(Clone, Copy)]
@@ -23,6 +23,23 @@ pub enum DirectAction {
     Trigger,
 }
 
+// The controller's own command for a direct action.
+impl From<DirectAction> for SourceAction {
+    ghost use Rattle.std.specs.Prelude.{◌≡◌};
+    ghost use Rattle.routines.specs.Routines.{action_of};
+
+    ghost from_gives = { λ a o. o ≡ action_of a };
+
+    fn from(a: DirectAction) -> SourceAction {
+        match a {
+            DirectAction::SetPriority(p) => SourceAction::SetSourcePriority(p),
+            DirectAction::Mask => SourceAction::Mask,
+            DirectAction::Unmask => SourceAction::Unmask,
+            DirectAction::Trigger => SourceAction::Trigger,
+        }
+    }
+}
+
 // The calls of the simulation.
 #[derive(Clone, Copy)]
 pub enum RoutineCall {
@@ -39,11 +56,4 @@ pub struct RoutineAnswer {
     pub number: u8,
     pub id: SourceId,
     pub cycles: u16,
-}
-
-// The call that three numbers name, if they name one.
-#[derive(Clone, Copy)]
-pub enum DecodedCall {
-    Unnamed,
-    Named(RoutineCall),
 }

@@ -233,7 +233,7 @@ module _ (r : Reader) (i : ℕ) (w : List ℕ) (time : ℕ) (good : r.fault.numb
 
   time_taken :
       r.variables.stb.value.number ≡ 1 → r.stamp.up ≡ false → is_readable r ≡ true → r.taken < 65535 →
-      read_time r (word_with i w) ≡ read_with (after_command r time) (strobe_of r)
+      read_time r (word_with i w) ≡ read_with (after_command r time) (Some (strobe_of r))
   unfolding read_time and_then end_open_stamp end_stamp open_stamp is_readable strobe_of
   time_taken n up readable room =
       rw (opened, known, eq-eqb _ _ n, up, readable, lt-leb 65535 r.taken room, eq-eqb _ _ good, e, later_word, et)
@@ -311,7 +311,7 @@ module _ (t : List ℕ) (i : ℕ) (h : i < length t) where
       is_time_lem : is_time (35 ∷ word_from t (i + 1)) ≡ true
       is_time_lem = and_in there.digits there.fits
 
-      pub takes_command : Takes r a.time → read_with (after_command r a.time) (strobe_of r) ≡ read_word r (word_with i (word_from t i))
+      pub takes_command : Takes r a.time → read_with (after_command r a.time) (Some (strobe_of r)) ≡ read_word r (word_with i (word_from t i))
       takes_command k =
           sym
           (ap (λ (w : List ℕ). read_word r (word_with i w)) (word_first 35 eb (omega arith))

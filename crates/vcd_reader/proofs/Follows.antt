@@ -4,6 +4,7 @@
 --   follows_bad                                   a reader with a fault stays as it is
 --   advances_word, advances_after, advances_quiet a word; after words that give no command; these words alone
 --   keeps_run                                     what is kept of the word at an offset
+use Rattle.std.specs.Prelude.{None}
 use Prim.Native.Nat.{ℕ, ◌+◌, ◌<◌, ◌≤◌}
 use mathlib.Core.Path.{◌≡◌, refl, sym, ap, ◌∙◌}
 use mathlib.Core.List.{List, [], ◌∷◌, ◌++◌, append-nil}
@@ -14,7 +15,7 @@ use Rattle.model.specs.declared.Command.{Command}
 use Rattle.recording.specs.declared.Reader.{Reader}
 use Rattle.recording.specs.declared.Read.{Read}
 use Rattle.recording.specs.Words.{separator, Word, word_with}
-use Rattle.recording.specs.Records.{no_strobe, only}
+use Rattle.recording.specs.Records.{only}
 use Rattle.recording.specs.Stamps.{commands_of}
 use Rattle.recording.specs.Reading.{is_good, read_word, progress, advance, read_words, times_at, times_from}
 use Rattle.vcd_words.specs.declared.Partial.{Partial}
@@ -127,7 +128,7 @@ module _ (t : List ℕ) where
 
   -- words that give no command, and nothing else
   pub advances_quiet :
-      {i j : ℕ} {r r' : Reader} {a : Advanced} → a ≡ advanced_with r' j no_strobe 0 → Follows t i r j r' → (i < length t → i < j) →
+      {i j : ℕ} {r r' : Reader} {a : Advanced} → a ≡ advanced_with r' j None 0 → Follows t i r j r' → (i < length t → i < j) →
       Advances t i r a
   unfolding commands_of
   advances_quiet {i} {j} {r} {r'} e f h =

@@ -2,7 +2,7 @@
 --   Follows t i r j r'     the words from i up to j are read, and give no command
 --   Advances t from r a    from an offset on, the words of t up to a place between two of them are read: what is read from there on gives
 --                          the same commands, times and reader as what is read from the offset on
-use Rattle.std.specs.Prelude.{ℕ, ◌<◌, ◌≤◌, ◌≡◌, List, [], ◌++◌, map, length, drop}
+use Rattle.std.specs.Prelude.{ℕ, ◌<◌, ◌≤◌, ◌≡◌, List, [], ◌++◌, map, length, drop, Option}
 use Rattle.model.specs.declared.Command.{Command}
 use Rattle.recording.specs.declared.Reader.{Reader}
 use Rattle.recording.specs.declared.Strobe.{Strobe}
@@ -15,7 +15,7 @@ use Rattle.vcd_reader.specs.declared.Advanced.{Advanced}
 abbrev pub words_from : List ℕ → ℕ → List Word
 words_from t i = cut i [] (drop i t)
 
-abbrev pub advanced_with : Reader → ℕ → Strobe → ℕ → Advanced
+abbrev pub advanced_with : Reader → ℕ → Option Strobe → ℕ → Advanced
 advanced_with r end s time = record { reader = r; end = end; strobe = s; time = time }
 
 pub record Follows (t : List ℕ) (i : ℕ) (r : Reader) (j : ℕ) (r' : Reader) : Type 0 where

@@ -2,7 +2,7 @@
 -- Assumes nothing.
 --   Places            the variable of a code takes a vector
 --   Takes r time      the word # with this time gives a command
-use Rattle.std.specs.Prelude.{ℕ, suc, ◌+◌, ◌<◌, ◌≤◌, ◌≡◌, List, ◌∷◌, Bool, true, false, not, ◌&&◌, cond, length, get_or, eqb}
+use Rattle.std.specs.Prelude.{ℕ, suc, ◌+◌, ◌<◌, ◌≤◌, ◌≡◌, List, ◌∷◌, Bool, true, false, not, ◌&&◌, cond, length, get_or, eqb, Some}
 use Rattle.recording.specs.declared.Place.{Place}
 use Rattle.recording.specs.declared.Signal.TheVariants.{Stb}
 use Rattle.recording.specs.declared.Vector.{Vector}
@@ -92,4 +92,4 @@ pub record Takes (r : Reader) (time : ℕ) : Type 0 where
   pub room : r.taken < 65535
   pub gives :
       r.fault.number ≡ 0 → (i : ℕ) (w : List ℕ) → is_time w ≡ true → time ≡ time_of w →
-      read_time r (word_with i w) ≡ read_with (after_command r time) (strobe_of r)
+      read_time r (word_with i w) ≡ read_with (after_command r time) (Some (strobe_of r))

@@ -1,29 +1,22 @@
 // A text read on from an offset, up to the next command.
 ghost use Rattle.std.specs.Prelude.{◌<◌, ◌≡◌, true, length};
 ghost use Rattle.recording.specs.declared.Place.TheVariants.{Definition};
-ghost use Rattle.recording.specs.Records.{no_strobe};
 ghost use Rattle.vcd_reader.specs.Advances.{advanced_with, Advances};
 ghost use Rattle.vcd_reader.specs.Skipping.{SkipsTo};
 ghost use Rattle.vcd_reader.specs.Changes.{MayChange, after_command, Takes};
 
 use crate::{Advanced, changes, runs, skipping};
-use recording::{Place, Reader, Stamp, Strobe};
+use recording::{Place, Reader, Stamp};
 use vcd_words::{scanning, stamps, words};
 
 // No command is given up to an offset.
 fn no_command(reader: Reader, end: usize) -> Advanced
-    ensures { result ≡ advanced_with reader end no_strobe 0 }
+    ensures { result ≡ advanced_with reader end None 0 }
 {
-    let strobe = Strobe {
-        given: false,
-        number: 0,
-        target: 0,
-        level: 0,
-    };
     Advanced {
         reader,
         end,
-        strobe,
+        strobe: None,
         time: 0,
     }
 }
@@ -96,7 +89,7 @@ fn after_changes(text: &[u8], from: usize, r: Reader) -> Advanced
         return Advanced {
             reader: taken_at(p.reader, t.time),
             end: t.end,
-            strobe: stamps::strobe(p.reader),
+            strobe: Some(stamps::strobe(p.reader)),
             time: p.reader.stamp.time,
         };
     }

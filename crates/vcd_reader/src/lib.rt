@@ -60,6 +60,6 @@ pub struct Passed {
 pub struct Advanced {
     pub reader: Reader,
     pub end: usize,
-    pub strobe: Strobe,
+    pub strobe: Option<Strobe>,
     pub time: u64,
 }

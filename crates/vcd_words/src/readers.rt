@@ -179,17 +179,16 @@ pub(crate) fn misread(r: Reader, why: Misreading, offset: u64) -> Reader
 }
 
 pub fn strobe_with(number: u16, target: u16, level: u16) -> Strobe
-    ensures { result ≡ strobe_with true number target level }
+    ensures { result ≡ strobe_with number target level }
 {
     Strobe {
-        given: true,
         number,
         target,
         level,
     }
 }
 
-pub fn read_with(r: Reader, s: Strobe) -> Read
+pub fn read_with(r: Reader, s: Option<Strobe>) -> Read
     ensures { result ≡ read_with r s }
 {
     Read {
@@ -204,12 +203,7 @@ pub fn only(r: Reader) -> Read
 {
     Read {
         reader: r,
-        strobe: Strobe {
-            given: false,
-            number: 0,
-            target: 0,
-            level: 0,
-        },
+        strobe: None,
     }
 }
 

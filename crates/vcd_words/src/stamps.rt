@@ -75,7 +75,7 @@ fn end_stamp(r: Reader, at: u64) -> Read
         return readers::only(readers::misread(r, Misreading::TooMany, at));
     }
     let next = readers::with_taken(readers::with_up(r, true), r.taken + 1);
-    readers::read_with(next, strobe(r))
+    readers::read_with(next, Some(strobe(r)))
 }
 
 // The end of the stamp, if one is open, shown at an offset.

@@ -6,6 +6,7 @@
 --   word_passes, quiet_passes  one word and a separator
 --   text_passage               a text and a separator
 --   passage_then, passes_then  two parts, one after the other
+use Rattle.std.specs.Prelude.{Option}
 use Prim.Native.Nat.{ℕ, suc, ◌+◌, ◌<◌}
 use mathlib.Core.Path.{◌≡◌, refl, sym, ap, ◌∙◌}
 use mathlib.Core.List.{List, [], ◌∷◌, ◌++◌, append-nil, append_assoc, map}
@@ -73,7 +74,7 @@ nothing_passes r at =
     record { words = []; parted = λ u. ap (λ (n : ℕ). cut n [] u) (omega arith); reached = refl; timed = refl }
 
 module _ (w : List ℕ) (b : ℕ) (r r' : Reader) where
-  pub word_passes : (s : Strobe) → 0 < length w → all is_plain w ≡ true → separator b ≡ true →
+  pub word_passes : (s : Option Strobe) → 0 < length w → all is_plain w ≡ true → separator b ≡ true →
       ((at : ℕ) → read_word r (word_with at w) ≡ read_with r' s) →
       Passes (w ++ (b ∷ [])) r r' (commands_of s) (map (λ (c : Command). r.stamp.time) (commands_of s))
   unfolding read_words advance times_from

@@ -2,6 +2,7 @@
 -- Assumes nothing.
 --   strobe_fits      the command of a strobe, from what the variables hold
 --   words_fit        along the words of a text
+use Rattle.std.specs.Prelude.{None, Some}
 use Prim.Native.Nat.{ℕ, zero, suc, ◌^◌, ◌<◌}
 use mathlib.Core.Path.{◌≡◌, refl, ap}
 use mathlib.Core.List.Memᴰ.{head as here}
@@ -23,7 +24,7 @@ use Rattle.recording.specs.declared.Signal.TheVariants.{Cmd, Core, Arg, Prio}
 use Rattle.recording.specs.declared.Value.{Value}
 use Rattle.recording.specs.declared.Reader.{Reader}
 use Rattle.recording.specs.Words.{all, Word, words}
-use Rattle.recording.specs.Records.{start, variable, no_strobe}
+use Rattle.recording.specs.Records.{start, variable}
 use Rattle.recording.specs.Declarations.{narrow}
 use Rattle.recording.specs.Stamps.{rises, uses_core, uses_priority, strobe_of, commands_of}
 use Rattle.recording.specs.Reading.{is_good, read_word, finish, Progress, progress, advance, read_words, finished, Reading, answered, reading}
@@ -58,7 +59,7 @@ module _ (core arg prio : Value) (c : core.number < 2 ^ 5) (a : arg.number < 2 ^
   named_fits (suc (suc (suc (suc (suc (suc (suc zero))))))) h = rw (lt-ltb arg.number (2 ^ 8) a)
   named_fits (suc (suc (suc (suc (suc (suc (suc (suc k)))))))) h = absurd (omega arith)
 
-strobe_fits : (r : Reader) → Fit r → Writable (commands_of (strobe_of r))
+strobe_fits : (r : Reader) → Fit r → Writable (commands_of (Some (strobe_of r)))
 unfolding commands_of strobe_of
 strobe_fits r h =
     named_fits (variable r Core).value (variable r Arg).value (variable r Prio).value (h.below Core) (h.below Arg)
@@ -68,7 +69,7 @@ taken_fits : (r : Reader) → Fit r → (ends : Bool) → Writable (commands_of 
 unfolding taken_at commands_of
 taken_fits r h ends = go (ends && rises r && not (unclear r) && not (excessive r))
   where
-    go : (b : Bool) → Writable (commands_of (cond b (strobe_of r) no_strobe))
+    go : (b : Bool) → Writable (commands_of (cond b (Some (strobe_of r)) None))
     go true = strobe_fits r h
     go false = refl
 

@@ -2,6 +2,7 @@
 --   before i, between f i h     the stamp and the reader before command i
 --   command_passes              the text of command i takes the reader on to the next, and gives the command at the time 2 i
 --   run_passes                  the text of a run
+use Rattle.std.specs.Prelude.{Some}
 use Prim.Native.Nat.{ℕ, zero, suc, ◌+◌, ◌*◌, ◌^◌, ◌<◌, ◌≤◌}
 use mathlib.Core.Path.{◌≡◌, refl, sym, ap, subst}
 use mathlib.Core.List.{List, [], ◌∷◌, map}
@@ -113,7 +114,7 @@ module _ (f : Form) where
   readable (OnSource id Redeliver) stamp n = refl
   readable (OnSource id Complete) stamp n = refl
 
-  strobed : (c : Command) (stamp : Stamp) (n : ℕ) → commands_of (strobe_of (raised c stamp n)) ≡ c ∷ []
+  strobed : (c : Command) (stamp : Stamp) (n : ℕ) → commands_of (Some (strobe_of (raised c stamp n))) ≡ c ∷ []
   unfolding commands_of strobe_of command_of
   strobed (OnSource id (SetSourcePriority p)) stamp n = refl
   strobed (OnSource id Mask) stamp n = refl
@@ -126,12 +127,12 @@ module _ (f : Form) where
 
   taking : (i : ℕ) (c : Command) → i < max_commands → (at : ℕ) →
       let r = raised c (stamp_with true (2 * i) false) i in
-      read_word r (word_with at (35 ∷ numeral_bytes 10 (suc (2 * i)))) ≡ read_with (raised c (before (suc i)) (suc i)) (strobe_of r)
+      read_word r (word_with at (35 ∷ numeral_bytes 10 (suc (2 * i)))) ≡ read_with (raised c (before (suc i)) (suc i)) (Some (strobe_of r))
   unfolding read_word read_at read_body read_time and_then end_open_stamp end_stamp
   taking i c l at =
       let r = raised c (stamp_with true (2 * i) false) i in
       rw (readable c (stamp_with true (2 * i) false) i, lt-leb max_commands i l)
-      (ap (λ (x : Reader). read_with x (strobe_of r))
+      (ap (λ (x : Reader). read_with x (Some (strobe_of r)))
       (opens_at (with_taken (suc i) (with_up true r)) at (suc (2 * i)) (omega arith) (λ e. omega arith)))
 
   second_passes : (i : ℕ) (c : Command) → i < max_commands →
@@ -142,7 +143,7 @@ module _ (f : Form) where
       (λ (cs : List Command).
       Passes (time_line (suc (2 * i))) r (raised c (before (suc i)) (suc i)) cs (map (λ (c : Command). 2 * i) cs))
       (strobed c (stamp_with true (2 * i) false) i)
-      (word_passes (35 ∷ numeral_bytes 10 (suc (2 * i))) 10 r (raised c (before (suc i)) (suc i)) (strobe_of r) (omega arith)
+      (word_passes (35 ∷ numeral_bytes 10 (suc (2 * i))) 10 r (raised c (before (suc i)) (suc i)) (Some (strobe_of r)) (omega arith)
       (decimal_plain (suc (2 * i))) refl (taking i c l))
 
   -- ---- a command

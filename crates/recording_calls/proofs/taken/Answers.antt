@@ -1,9 +1,11 @@
 -- `recording_calls::taken` meets its contract. Assumes nothing.
-use Rattle.recording_calls.proofs.Parts.{none_given, some_given}
+use Rattle.recording.specs.Stamps.{commands_of}
 use Rattle.recording_calls.proofs.taken.Goals as goal
 
-pub returns-then-not-s : goal.returns-then-not-s
-returns-then-not-s c = none_given _ c.if-not-s.true
+pub returns-in_err-s : goal.returns-in_err-s
+unfolding commands_of
+returns-in_err-s c = rw (c.in_err-s.was, c.from_residual.ensures)
 
 pub returns : goal.returns
-returns c = some_given _ _ c.if-not-s.false c.command.ensures
+unfolding commands_of
+returns c = rw (c.in_ok-s.was, c.command.ensures)

@@ -7,14 +7,14 @@ use Rattle.routines.specs.Routines.{table_after}
 use Rattle.routines.specs.Calls.{one_call, routines_in}
 use Rattle.routine_lists.proofs.Simulating.{read_call, kept_by, raised_by, count_fits, simulate_more, simulate_done}
 use Rattle.routine_lists.proofs.simulate_all.Goals as goal
-use Rattle.routine_lists.proofs.simulate_all.Goals.{then-o-ne0, else-o-ne0, else-loop-i-test, then-loop-i-test+in-Unnamed}
+use Rattle.routine_lists.proofs.simulate_all.Goals.{then-is_some, else-is_some, else-loop-i-test, then-loop-i-test+in_default}
 
 -- a handover that is counted has its place in the table
 pub count-raised-requires : goal.count-raised-requires
 count-raised-requires c =
     let l = c.loop-i in
-    let named = sym c.call_of-read.ensures ∙ c.in-Named.is in
-    count_fits l.state l.counts (get_or c.args.list.now l.i 0) c.word_at-at.result c.word_at.result named c.step-o.ensures c.if-o-ne0.true
+    let named = sym c.call_of-read.ensures ∙ c.in-Some.is in
+    count_fits l.state l.counts (get_or c.args.list.now l.i 0) c.word_at-at.result c.word_at.result named c.step-o.ensures (sym c.is_some.ensures ∙ c.if-is_some.true)
 
 pub loop-i-preserved : goal.loop-i-preserved
 loop-i-preserved c =
@@ -22,13 +22,13 @@ loop-i-preserved c =
     let number = get_or c.args.list.now l.i 0 in
     let at = c.word_at-at.result in
     let p = c.word_at.result in
-    let named = sym c.call_of-read.ensures ∙ c.in-Named.is in
+    let named = sym c.call_of-read.ensures ∙ c.in-Some.is in
     let read = fives_read read_call c.args.list.now l.i c.word_at-at.ensures c.word_at.ensures (ap one_call named) in
-    let counted : c.if-o-ne0.counts ≡ table_after l.counts (routines_in l.state l.active l.holder) c.in-Named.c =
-    elim c.if-o-ne0.branch [
-      | then-o-ne0 w ↦
-          raised_by l.state l.counts number at p named c.step-o.ensures w.if-o-ne0.true (w.counts-is ∙ w.count-raised.ensures)
-      | else-o-ne0 w ↦ kept_by l.state l.counts number at p named c.step-o.ensures w.if-o-ne0.false w.counts-is
+    let counted : c.if-is_some.counts ≡ table_after l.counts (routines_in l.state l.active l.holder) c.in-Some.c =
+    elim c.if-is_some.branch [
+      | then-is_some w ↦
+          raised_by l.state l.counts number at p named c.step-o.ensures (sym c.is_some.ensures ∙ w.if-is_some.true) (w.counts-is ∙ w.count-raised.ensures)
+      | else-is_some w ↦ kept_by l.state l.counts number at p named c.step-o.ensures (sym c.is_some.ensures ∙ w.if-is_some.false) w.counts-is
     ] in (
       simulate_more l.state l.invariant.0 c.loop-i-test.true read c.step-o.ensures c.put_answer.ensures counted,
       c.step-o.ensures.running,
@@ -41,9 +41,9 @@ returns c =
     simulate_done a.state.now a.active.now a.holder.now a.list.now a.answers.now a.table.now c.requires
     (elim c.loop-i-test.branch [
       | else-loop-i-test w ↦ run_end l.invariant.0 w.loop-i-test.false
-      | then-loop-i-test+in-Unnamed w ↦
+      | then-loop-i-test+in_default w ↦
           run_stop l.invariant.0 w.loop-i-test.true
           (fives_read read_call a.list.now l.i w.word_at-at.ensures w.word_at.ensures
-          (ap one_call (sym w.call_of-read.ensures ∙ w.in-Unnamed.is)))
+          (ap one_call (sym w.call_of-read.ensures ∙ w.in_default.is)))
     ])
     l.invariant.1.whole c.put_table.ensures

@@ -1,5 +1,5 @@
 -- `routine_steps::enter` meets its contract: refused as its claim is; else claimed, handed back, and two numbers stored. Assumes nothing.
-use mathlib.Core.Path.{refl}
+use mathlib.Core.Path.{refl, ◌∙◌}
 use Rattle.std.proofs.Common.{arith}
 use Rattle.routine_steps.proofs.Done.{enter_refused, enter_ready, enter_core, enter_source, enter_cycles, enter_done}
 use Rattle.routine_steps.proofs.enter.Goals as goal
@@ -36,5 +36,6 @@ overflow_add-claimed c =
 
 pub returns : goal.returns
 returns c =
-    enter_done c.requires c.args.core c.on_core-claimed.ensures c.if-claimed-ne0.false c.hand_back-back.ensures c.answered-2.ensures
-    refl refl
+    let (number, id, cycles, from) = c.answered-2.ensures in
+    enter_done c.requires c.args.core c.on_core-claimed.ensures c.if-claimed-ne0.false c.hand_back-back.ensures
+    (number, id, cycles, from ∙ c.holder_from-from.ensures) refl refl

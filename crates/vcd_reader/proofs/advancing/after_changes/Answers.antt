@@ -1,4 +1,5 @@
 -- `vcd_reader::advancing::after_changes` meets its contract. Assumes nothing.
+use Rattle.std.specs.Prelude.{Some}
 use mathlib.Core.Path.{sym, ap, ◌∙◌}
 use Rattle.std.proofs.Common.{arith}
 use Rattle.recording.specs.Records.{read_with}
@@ -27,6 +28,6 @@ returns c =
     let ends = first_end t i c.if-i-text.false 35 c.if-text-i-eq35.true (omega arith) a.end there.end in
     rw (c.taken_at.ensures, c.strobe.ensures)
     (advances_after t q.ensures.follows c.if-i-text.false
-    (advances_word t i c.if-i-text.false starts a.end ends r (read_with (after_command r a.time) (strobe_of r))
+    (advances_word t i c.if-i-text.false starts a.end ends r (read_with (after_command r a.time) (Some (strobe_of r)))
     (takes_command t i c.if-i-text.false r place q.ensures.changes.good a c.if-text-i-eq35.true there
     (c.takes.ensures c.if-takes.true))))
