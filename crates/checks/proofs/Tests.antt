@@ -1,59 +1,40 @@
--- From the tests that the code makes to those of the definitions. Assumes nothing.
---   in_top, above_top              a core's priority, 0 to top
---   holds_unfilled, holds_other    an empty box, and one of another source, does not hold the request
---   unboxed_none, -more, -all      no box of the first k cores holds it: at 0, one core further, and at the end
---   not_pending, not_delivered, in_no_box    the test of a claimed request, where it stops
-use Prim.Native.Nat.{ℕ, ◌+◌, ◌<◌, ◌≤◌}
-use mathlib.Core.Path.{◌≡◌, refl}
+-- Looking for a box through the cores, one after another. Assumes nothing.
+--   some_by_any      a test of the numbers 0, .., m - 1 that some passes
+--   boxed_by_any     some box of the first m cores holds a request, asked of the records at k in the place of the list's
+use Prim.Native.Nat.{ℕ, zero, suc, ◌<◌, ◌≤◌}
+use mathlib.Core.Path.{◌≡◌, refl, sym, ap, ap₂, ◌∙◌}
 use mathlib.Core.List.{List}
-use mathlib.Core.Bool.{Bool, true, false, not, ◌&&◌}
-use lib.ListN.{get_or}
-use lib.Dec.{leb}
-use native.Mathlib.Numerals.{add-one}
+use mathlib.Core.Bool.{Bool, ◌||◌}
+use lib.ListN.{get_or, take}
 use native.Mathlib.Omega.{arith}
-use borrow.Author.Tests.{ne_eqb, le-leb, lt-leb, not-true, not-false}
+use native.Mathlib.Numerals.{add-one}
+use Rattle.std.proofs.Common.{zero-add}
+use Rattle.std.specs.List.{list_any, range_with_len}
+use Rattle.std.proofs.lemmas.List.{take_all}
+use Rattle.std.proofs.lemmas.List.Folds.{list_any_more}
+use Rattle.std.proofs.lemmas.List.FromFn.{length-range_with_len, get_or-range_with_len}
+use Rattle.lists.specs.Walks.{some}
 use Rattle.model.specs.declared.Core.{Core}
 use Rattle.model.specs.Records.{no_core}
-use Rattle.lists.specs.Walks.{some}
 use Rattle.model.specs.Requests.{holds, boxed}
-use Rattle.model.specs.Commands.{bad_priority, unless}
 
--- ---- priorities
+module _ (test f : ℕ → Bool) (m : ℕ) (same : (k : ℕ) → k < m → test k ≡ f k) where
+  -- the first k of them
+  so_far : (k : ℕ) → k ≤ m → list_any test (take k (range_with_len 0 m)) ≡ some k f
+  unfolding some
+  so_far zero h = refl
+  so_far (suc k) h =
+      ap (λ i. list_any test (take i (range_with_len 0 m))) (sym (add-one k)) ∙
+      list_any_more test (range_with_len 0 m) k 0 (omega (arith, length-range_with_len 0 m)) ∙
+      ap₂ ◌||◌ (so_far k (omega arith)) (ap test (get_or-range_with_len 0 m k 0 (omega arith) ∙ zero-add k) ∙ same k (omega arith))
 
-module _ {t top : ℕ} (is : t ≡ top) (p : ℕ) where
-  pub in_top : p ≤ t → 0 ≡ unless (leb p top) bad_priority 0
-  in_top h = rw (le-leb p top (omega arith))
+  pub some_by_any : list_any test (range_with_len 0 m) ≡ some m f
+  some_by_any =
+      ap (list_any test) (sym (take_all m (range_with_len 0 m) (omega (arith, length-range_with_len 0 m)))) ∙ so_far m (omega arith)
 
-  pub above_top : t < p → bad_priority ≡ unless (leb p top) bad_priority 0
-  above_top h = rw (lt-leb p top (omega arith))
-
--- ---- looking for a box
-
-pub holds_unfilled : (c : Core) (id : ℕ) → c.message.filled ≡ false → holds id c ≡ false
-holds_unfilled c id e = rw e
-
-pub holds_other : (c : Core) (id : ℕ) → c.message.filled ≡ true → (c.message.source.0 ≡ id → ⊥) → holds id c ≡ false
-holds_other c id e h = rw (e, ne_eqb c.message.source.0 id h)
-
-pub unboxed_none : (l : List Core) (id : ℕ) → boxed l 0 id ≡ false
-unfolding boxed some
-unboxed_none l id = refl
-
-pub unboxed_more : (l : List Core) (k id : ℕ) → boxed l k id ≡ false → holds id (get_or l k no_core) ≡ false → boxed l (k + 1) id ≡ false
-unfolding boxed some
-unboxed_more l k id before here = rw (add-one, before, here)
-
-pub unboxed_all : (l : List Core) (k m id : ℕ) → k ≤ m → m ≤ k → boxed l k id ≡ false → false ≡ boxed l m id
-unboxed_all l k m id p q e = let same : m ≡ k = omega arith in rw (same, e)
-
--- ---- a request that is claimed
-
-module _ (pending delivered in_box : Bool) where
-  pub not_pending : not pending ≡ true → false ≡ pending && delivered && not in_box
-  not_pending e = rw (not-true pending e)
-
-  pub not_delivered : not pending ≡ false → not delivered ≡ true → false ≡ pending && delivered && not in_box
-  not_delivered p e = rw (not-false pending p, not-true delivered e)
-
-  pub in_no_box : not pending ≡ false → not delivered ≡ false → {r : Bool} → r ≡ in_box → not r ≡ pending && delivered && not in_box
-  in_no_box p d e = rw (not-false pending p, not-false delivered d, e)
+pub boxed_by_any :
+    (l : List Core) (m id : ℕ) (core : ℕ → Core) → ((k : ℕ) → k < m → core k ≡ get_or l k no_core) →
+    list_any (λ k. holds id (core k)) (range_with_len 0 m) ≡ boxed l m id
+unfolding boxed
+boxed_by_any l m id core same =
+    some_by_any (λ k. holds id (core k)) (λ k. holds id (get_or l k no_core)) m (λ k h. ap (holds id) (same k h))

@@ -7,10 +7,10 @@ pub mod numbers;
 ghost use Rattle.std.specs.Prelude.{◌≡◌, ltb};
 ghost use Rattle.lists.specs.Numbers.{between};
 ghost use Rattle.model.specs.Priorities.{top_priority};
+ghost use Rattle.model.specs.Commands.{number_in};
 ghost use Rattle.checks.specs.Refusals.{source_refusal_by, core_refusal_by};
 
-use model::{Core, CoreAction, CoreId, Source, SourceAction, SourceId};
-use numbers::{ALREADY_PENDING, BAD_PRIORITY, NOT_CLAIMED, NOTHING_TO_CLAIM, PRIORITY_IN_USE};
+use model::{Core, CoreAction, CoreId, Refusal, Source, SourceAction, SourceId};
 
 // Whether the id is 1 to n.
 pub fn names_source(n: u16, id: SourceId) -> bool
@@ -33,59 +33,30 @@ pub fn is_source_priority(n: u16, p: u16) -> bool
     records::one_to(records::top_priority(n), p)
 }
 
-// The number for no of an action on a source's record r, 0 for none; claimed says whether its request is.
-pub fn source_refusal(n: u16, r: Source, claimed: bool, a: SourceAction) -> u8
-    ensures { result ≡ source_refusal_by n r claimed a }
+// Whether an action on a source's record r is refused, and why; claimed says whether its request is.
+pub fn source_refusal(n: u16, r: Source, claimed: bool, a: SourceAction) -> Result<(), Refusal>
+    ensures { number_in result ≡ source_refusal_by n r claimed a }
 {
     match a {
-        SourceAction::SetSourcePriority(p) => {
-            if !is_source_priority(n, p) {
-                return BAD_PRIORITY;
-            }
-            if r.pending {
-                return PRIORITY_IN_USE;
-            }
-            0
+        SourceAction::SetSourcePriority(p) if !is_source_priority(n, p) => {
+            Err(Refusal::BadPriority)
         }
-        SourceAction::Mask => 0,
-        SourceAction::Unmask => 0,
-        SourceAction::Trigger => {
-            if !r.pending {
-                return 0;
-            }
-            ALREADY_PENDING
-        }
-        SourceAction::Redeliver => {
-            if claimed {
-                return 0;
-            }
-            NOT_CLAIMED
-        }
-        SourceAction::Complete => {
-            if claimed {
-                return 0;
-            }
-            NOT_CLAIMED
-        }
+        SourceAction::SetSourcePriority(_) if r.pending => Err(Refusal::PriorityInUse),
+        SourceAction::Trigger if r.pending => Err(Refusal::AlreadyPending),
+        SourceAction::Redeliver | SourceAction::Complete if !claimed => Err(Refusal::NotClaimed),
+        _ => Ok(()),
     }
 }
 
-// The number for no of an action on a core's record c, 0 for none.
-pub fn core_refusal(n: u16, c: Core, a: CoreAction) -> u8
-    ensures { result ≡ core_refusal_by n c a }
+// Whether an action on a core's record c is refused, and why.
+pub fn core_refusal(n: u16, c: Core, a: CoreAction) -> Result<(), Refusal>
+    ensures { number_in result ≡ core_refusal_by n c a }
 {
     match a {
-        CoreAction::SetCorePriority(p) => {
-            if p as u32 <= records::top_priority(n) {
-                return 0;
-            }
-            BAD_PRIORITY
+        CoreAction::SetCorePriority(p) if p as u32 > records::top_priority(n) => {
+            Err(Refusal::BadPriority)
         }
-        CoreAction::Claim => {
-            if c.message.filled {
-                return 0;
-            }
-            NOTHING_TO_CLAIM
-        }
+        CoreAction::Claim if !c.message.filled => Err(Refusal::NothingToClaim),
+        _ => Ok(()),
     }
 }

@@ -5,16 +5,21 @@
 ghost use Rattle.std.specs.Prelude.{◌≡◌};
 ghost use Rattle.model.specs.Commands.{execute as execute_of, make as make_of};
 
-use checks::numbers::BAD_SIZE;
 use layout::STATE_SIZE;
-use model::{Answer, CORES, Command, Controller, SOURCES, SourceId};
+use model::{Answer, Command, Controller, Refusal, SourceId};
 
 // A fresh controller, or 2 with the fresh one of sizes (1, 1).
+#[tactic(auto, unfolding(model::specs::Commands::make))]
 pub fn make(n: u16, m: u16) -> Answer
     ensures { result ≡ make_of n m }
 {
     if !well_formed::sizes_in_range(n, m) {
-        return records::answer_with(records::reset(1, 1), BAD_SIZE, SourceId(0), 0);
+        return records::answer_with(
+            records::reset(1, 1),
+            Refusal::BadSize.into(),
+            SourceId(0),
+            0,
+        );
     }
     records::answer_with(records::reset(n, m), 0, SourceId(0), 0)
 }
@@ -25,10 +30,9 @@ pub fn execute(s: Controller, c: Command) -> Answer
 {
     let mut bytes = [0u8; STATE_SIZE];
     encoding::put_state(&mut bytes[..], s);
-    let mut keys = [0; CORES];
-    let mut ranks = [0; SOURCES];
-    let sound = steps::begin(&bytes[..], &mut keys, &mut ranks);
-    let o = steps::step(&mut bytes[..], &mut keys, &mut ranks, sound, c);
+    let mut ranking = steps::begin(&bytes[..]);
+    let o = steps::step(&mut bytes[..], &mut ranking, c);
+    let (number, id, cycles) = in_place::numbers_of(o);
     let state = decoding::state_from(&bytes[..]);
-    records::answer_with(state, o.number, o.id, o.cycles)
+    records::answer_with(state, number, id, cycles)
 }

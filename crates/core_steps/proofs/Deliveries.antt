@@ -1,6 +1,6 @@
 -- The deliveries of settling on a state's bytes, turn by turn. Assumes nothing.
---   DeliveredTo s b keys ranks t      the bytes hold s after its first t cycles, which are deliveries
---   delivered_none, -more, -by        before the first turn, after one that delivers, and the same by other names
+--   DeliveredTo s b g t               the bytes hold s after its first t cycles, which are deliveries
+--   delivered_none, -more             before the first turn, and after one that delivers
 --   turn_rests                        the numbers say that nothing is left to deliver
 --   delivered_rest, -all              at rest, or after m turns: the answer is that of every longer run
 use Prim.Native.Nat.{ℕ, suc, ◌+◌, ◌%◌, ◌<◌, ◌≤◌}
@@ -27,19 +27,20 @@ use Rattle.settling.proofs.Arbitrated.{Arbitrated}
 use Rattle.settling.proofs.Deliver.{deliver_consistent, deliver_delivering}
 use Rattle.settling.proofs.Deliveries.{deliveries_end}
 use Rattle.settling.proofs.Forward.{settle_beyond, cycles_of-beyond, cycles_of-le, Ran, ran_none, ran_more, ran_n, ran_m}
-use Rattle.layout.specs.Bytes.{state_from}
-use Rattle.in_place.specs.Held.{Held, NamesSource, Delivers}
-use Rattle.in_place.proofs.Stored.{held_back, held_here}
+use Rattle.layout.specs.Bytes.{source_from, core_from, state_from}
+use Rattle.in_place.specs.declared.Ranking.{Ranking}
+use Rattle.in_place.specs.Held.{source_place, core_place, Held, NamesSource, Delivers}
+use Rattle.in_place.proofs.Stored.{held_back, held_here, read_source, read_core}
 use Rattle.core_steps.specs.Phases.{Undelivered, Delivered}
 
-pub record DeliveredTo (s : Controller) (b keys ranks : List ℕ) (t : ℕ) : Type 0 where
-  pub held : Held (state_from b) b keys ranks
+pub record DeliveredTo (s : Controller) (b : List ℕ) (g : Ranking) (t : ℕ) : Type 0 where
+  pub held : Held (state_from b) b g
   pub ran : Ran is_delivery s (state_from b) t
   pub consistent : Consistent (state_from b)
   pub delivering : Delivering (state_from b)
   pub within : t ≤ s.m
 
-pub delivered_none : {b keys ranks : List ℕ} → Undelivered b keys ranks → DeliveredTo (state_from b) b keys ranks 0
+pub delivered_none : {b : List ℕ} {g : Ranking} → Undelivered b g → DeliveredTo (state_from b) b g 0
 delivered_none {b} p =
     record {
       held = p.held;
@@ -49,10 +50,10 @@ delivered_none {b} p =
       within = omega arith;
     }
 
--- ---- one turn
+-- ---- one turn, by what the two searches answer
 
-module _ {s : Controller} {b keys ranks : List ℕ} {t top key : ℕ} (d : DeliveredTo s b keys ranks t) (g : GreatestOf ranks s.n top)
-    (l : LowestOf keys s.m key) where
+module _ {s : Controller} {b : List ℕ} {g : Ranking} {t n m top key : ℕ} (d : DeliveredTo s b g t) (n_is : n ≡ s.n) (m_is : m ≡ s.m)
+    (greatest : GreatestOf g.ranks n top) (lowest : LowestOf g.keys m key) where
   abbrev u : Controller
   u = state_from b
 
@@ -61,13 +62,13 @@ module _ {s : Controller} {b keys ranks : List ℕ} {t top key : ℕ} (d : Deliv
 
   told : Told u.sources u.n top
   told =
-      highest_told u.sources u.n ranks c.n_le d.held.numbered.ranked
-      (subst (λ (x : ℕ). GreatestOf ranks x top) (sym (ran_n d.ran)) g)
+      highest_told u.sources u.n g.ranks c.n_le d.held.numbered.ranked
+      (subst (λ (x : ℕ). GreatestOf g.ranks x top) (n_is ∙ sym (ran_n d.ran)) greatest)
 
   low : (core_of key ≡ low_core u) × (current_of key ≡ current_priority (core_at u (low_core u)))
   low =
-      least_told u.cores u.m keys c.m_le d.held.numbered.keyed
-      (subst (λ (x : ℕ). LowestOf keys x key) (sym (ran_m d.ran)) l)
+      least_told u.cores u.m g.keys c.m_le d.held.numbered.keyed
+      (subst (λ (x : ℕ). LowestOf g.keys x key) (m_is ∙ sym (ran_m d.ran)) lowest)
 
   next_is : next u ≡ arbitrate u (top_source u) (low_core u)
   next_is = next_clean u d.delivering.clean
@@ -75,61 +76,69 @@ module _ {s : Controller} {b keys ranks : List ℕ} {t top key : ℕ} (d : Deliv
   pub turn_fits : top % rank_step ≤ max_sources
   turn_fits = told.fits
 
-  pub turn_rests : priority_of top ≤ current_of key → next u ≡ Rest
-  unfolding arbitrate
-  turn_rests h = next_is ∙ rw (told.rests (core_at u (low_core u)) (omega (arith, low.1)))
-
-  module _ (above : current_of key < priority_of top) where
-    interrupts : interrupted_by (core_at u (low_core u)) (source_at u (top_source u)) ≡ true
-    interrupts = told.interrupts (core_at u (low_core u)) (omega (arith, low.1))
-
-    delivers : next u ≡ Deliver (source_id (suc (top_source u))) (core_id (low_core u))
+  module _ {p q : ℕ} (p_is : p ≡ priority_of top) (q_is : q ≡ current_of key) where
+    pub turn_rests : p ≤ q → next u ≡ Rest
     unfolding arbitrate
-    delivers = next_is ∙ rw interrupts
+    turn_rests h = next_is ∙ rw (told.rests (core_at u (low_core u)) (omega (arith, low.1)))
 
-    arbitrated : Arbitrated u (top_source u) (low_core u)
-    arbitrated = record { consistent = c; delivering = d.delivering; won = contest u c.some_source c.some_core interrupts }
+    module _ (above : q < p) {i k : ℕ} (i_is : i ≡ source_of top) (k_is : k ≡ core_of key) where
+      interrupts : interrupted_by (core_at u (low_core u)) (source_at u (top_source u)) ≡ true
+      interrupts = told.interrupts (core_at u (low_core u)) (omega (arith, low.1))
 
-    source_is : source_of top ≡ top_source u
-    source_is = told.which (omega arith)
+      delivers : next u ≡ Deliver (source_id (suc (top_source u))) (core_id (low_core u))
+      unfolding arbitrate
+      delivers = next_is ∙ rw interrupts
 
-    pub turn_source : source_of top < max_sources
-    turn_source = omega (arith, source_is, highest_below u.sources u.n c.some_source, c.n_le)
+      arbitrated : Arbitrated u (top_source u) (low_core u)
+      arbitrated = record { consistent = c; delivering = d.delivering; won = contest u c.some_source c.some_core interrupts }
 
-    core_in_use : low_core u < u.m
-    core_in_use = least_below u.cores u.m c.some_core
+      source_is : i ≡ top_source u
+      source_is = i_is ∙ told.which (omega arith)
 
-    pub turn_core : core_of key < max_cores
-    turn_core = omega (arith, low.0, core_in_use, c.m_le)
+      core_is : k ≡ low_core u
+      core_is = k_is ∙ low.0
 
-    module _ {e : Core} (read_core : e ≡ core_at u (core_of key)) where
-      pub turn_names : NamesSource e.message
-      turn_names f =
-          let filled : (core_at u (low_core u)).message.filled ≡ true = rw (read_core, low.0) at f in
-          let h : Holding u (core_at u (low_core u)) = c.backed (low_core u) core_in_use filled in
-          let same : e.message.source.0 ≡ (core_at u (low_core u)).message.source.0 = rw (read_core, low.0) in
-          (omega (arith, h.some_id, same), omega (arith, h.id_le, same, c.n_le))
+      pub turn_source : i < max_sources
+      turn_source = omega (arith, source_is, highest_below u.sources u.n c.some_source, c.n_le)
 
-      pub delivered_more :
-          {r : Source} → r ≡ source_at u (source_of top) → {b' keys' ranks' : List ℕ} →
-          Delivers (source_of top) r (core_of key) e b keys ranks b' keys' ranks' → t < s.m → DeliveredTo s b' keys' ranks' (t + 1)
-      delivered_more read_source {b'} {keys'} {ranks'} done more =
-          let after : Held (deliver u (source_of top) (core_of key)) b' keys' ranks' = done u d.held read_source read_core in
-          let same : state_from b' ≡ deliver u (top_source u) (low_core u) = held_back after ∙ ap₂ (deliver u) source_is low.0 in
-          record {
-            held = held_here after;
-            ran =
-                subst (λ (v : Controller). Ran is_delivery s v (t + 1)) (sym same)
-                (ran_more d.ran (Deliver (source_id (suc (top_source u))) (core_id (low_core u))) delivers refl);
-            consistent = subst Consistent (sym same) (deliver_consistent arbitrated);
-            delivering = subst Delivering (sym same) (deliver_delivering arbitrated);
-            within = omega arith;
-          }
+      core_in_use : low_core u < u.m
+      core_in_use = least_below u.cores u.m c.some_core
+
+      pub turn_core : k < max_cores
+      turn_core = omega (arith, core_is, core_in_use, c.m_le)
+
+      -- e is the record that is read
+      module _ {e : Core} (read : e ≡ core_from b (core_place k)) where
+        there : e ≡ core_at u k
+        there = read ∙ read_core d.held k turn_core
+
+        pub turn_names : NamesSource e.message
+        turn_names f =
+            let filled : (core_at u (low_core u)).message.filled ≡ true = rw (there, core_is) at f in
+            let h : Holding u (core_at u (low_core u)) = c.backed (low_core u) core_in_use filled in
+            let same : e.message.source.0 ≡ (core_at u (low_core u)).message.source.0 = rw (there, core_is) in
+            (omega (arith, h.some_id, same), omega (arith, h.id_le, same, c.n_le))
+
+        pub delivered_more :
+            {r : Source} → r ≡ source_from b (source_place i) → {b' : List ℕ} {g' : Ranking} → Delivers i r k e b g b' g' → t < m →
+            DeliveredTo s b' g' (t + 1)
+        delivered_more taken {b'} {g'} done more =
+            let after : Held (deliver u i k) b' g' = done u d.held (taken ∙ read_source d.held i turn_source) there in
+            let same : state_from b' ≡ deliver u (top_source u) (low_core u) = held_back after ∙ ap₂ (deliver u) source_is core_is in
+            record {
+              held = held_here after;
+              ran =
+                  subst (λ (v : Controller). Ran is_delivery s v (t + 1)) (sym same)
+                  (ran_more d.ran (Deliver (source_id (suc (top_source u))) (core_id (low_core u))) delivers refl);
+              consistent = subst Consistent (sym same) (deliver_consistent arbitrated);
+              delivering = subst Delivering (sym same) (deliver_delivering arbitrated);
+              within = omega arith;
+            }
 
 -- ---- the end
 
-module _ {b b' keys ranks : List ℕ} {t : ℕ} (d : DeliveredTo (state_from b) b' keys ranks t) where
-  pub delivered_rest : next (state_from b') ≡ Rest → Delivered b t b' keys ranks
+module _ {b b' : List ℕ} {g : Ranking} {t : ℕ} (d : DeliveredTo (state_from b) b' g t) where
+  pub delivered_rest : next (state_from b') ≡ Rest → Delivered b t b' g
   unfolding cycles_of
   delivered_rest rest = record { held = d.held; after = after; few = d.within }
     where
@@ -141,6 +150,8 @@ module _ {b b' keys ranks : List ℕ} {t : ℕ} (d : DeliveredTo (state_from b) 
           let cycles-there : cycles_of f s ≡ t = omega (arith, cycles_of-beyond s t rests f more, d.ran.counted, cycles_of-le t s) in
           (d.ran.state_is ∙ sym (settle_beyond s t rests f more), sym cycles-there)
 
-  pub delivered_all : {keys₀ ranks₀ : List ℕ} → Undelivered b keys₀ ranks₀ → (state_from b).m ≤ t → Delivered b t b' keys ranks
-  delivered_all p h =
-      delivered_rest (rw d.ran.state_is (deliveries_end (state_from b) p.consistent p.delivering t h).rests)
+  pub delivered_all : {m : ℕ} {g₀ : Ranking} → Undelivered b g₀ → m ≡ (state_from b).m → m ≤ t → Delivered b m b' g
+  delivered_all {m} p sized h =
+      let end : t ≡ m = omega (arith, d.within) in
+      subst (λ (y : ℕ). Delivered b y b' g) end
+      (delivered_rest (rw d.ran.state_is (deliveries_end (state_from b) p.consistent p.delivering t (omega arith)).rests))

@@ -1,7 +1,7 @@
 -- The retractions after set core priority, on boxes that were never marked as dirty: no mark needs to be written. Assumes nothing.
 --   soiled_core, soiled_retract      the cores of a state with every filled box dirty; a retraction there writes the same record
 --   soiled_none                      where no box is filled and none is dirty, nothing is left to mark
---   Emptying s b keys ranks x k      the boxes below k are empty, x of them since the retractions began from s
+--   Emptying s b g x k               the boxes below k are empty, x of them since the retractions began from s
 --   emptying_none, -filled, -empty, -all    before the first turn, after a turn, and after the last
 use Prim.Native.Nat.{ℕ, zero, suc, ◌+◌, ◌<◌, ◌≤◌}
 use mathlib.Core.Path.{◌≡◌, refl, sym, ap, ap₂, subst, ◌∙◌}
@@ -21,9 +21,10 @@ use Rattle.settling.specs.Runs.{AfterRetractions}
 use Rattle.settling.proofs.Writes.{core_retract_same, core_retract_other}
 use Rattle.settling.proofs.Forward.{ran_m}
 use Rattle.settling.proofs.Retracting.{Retracting, retracting_none, retracting_clean, retracting_dirty, retracting_all}
-use Rattle.layout.specs.Bytes.{state_from}
-use Rattle.in_place.specs.Held.{Held, NamesSource, Retracts}
-use Rattle.in_place.proofs.Stored.{held_back, held_here}
+use Rattle.layout.specs.Bytes.{core_from, state_from}
+use Rattle.in_place.specs.declared.Ranking.{Ranking}
+use Rattle.in_place.specs.Held.{core_place, Held, NamesSource, Retracts}
+use Rattle.in_place.proofs.Stored.{held_back, held_here, read_core}
 use Rattle.core_steps.specs.Phases.{soiled_all, AllClean, Soiled, Emptied}
 
 -- ---- marks
@@ -71,12 +72,12 @@ clean_retract u k inside clean j = go (ℕ_discrete j k)
 
 -- ---- the loop
 
-pub record Emptying (s : Controller) (b keys ranks : List ℕ) (x k : ℕ) : Type 0 where
-  pub held : Held (state_from b) b keys ranks
+pub record Emptying (s : Controller) (b : List ℕ) (g : Ranking) (x k : ℕ) : Type 0 where
+  pub held : Held (state_from b) b g
   pub clean : AllClean (state_from b)
   pub turn : Retracting (soiled_all s) (soiled_all (state_from b)) x k
 
-pub emptying_none : {b keys ranks : List ℕ} → Soiled b keys ranks → Emptying (state_from b) b keys ranks 0 0
+pub emptying_none : {b : List ℕ} {g : Ranking} → Soiled b g → Emptying (state_from b) b g 0 0
 emptying_none {b} p =
     record {
       held = p.held;
@@ -86,13 +87,16 @@ emptying_none {b} p =
 
 -- the same by other names
 pub emptying_by :
-    {s : Controller} {b b' keys keys' ranks ranks' : List ℕ} {x x' k : ℕ} → Emptying s b keys ranks x k → b' ≡ b → keys' ≡ keys →
-    ranks' ≡ ranks → x' ≡ x → Emptying s b' keys' ranks' x' k
-emptying_by e p q r t = rw (p, q, r, t) e
+    {s : Controller} {b b' : List ℕ} {g g' : Ranking} {x x' k : ℕ} → Emptying s b g x k → b' ≡ b → g' ≡ g → x' ≡ x →
+    Emptying s b' g' x' k
+emptying_by e p q r = rw (p, q, r) e
 
-module _ {s : Controller} {b keys ranks : List ℕ} {x k : ℕ} (e : Emptying s b keys ranks x k) (k_lt : k < s.m) where
+module _ {s : Controller} {b : List ℕ} {g : Ranking} {x k m : ℕ} (e : Emptying s b g x k) (sized : m ≡ s.m) (k_lt : k < m) where
   abbrev u : Controller
   u = state_from b
+
+  below : k < s.m
+  below = omega arith
 
   in_use : k < u.m
   in_use = omega (arith, ran_m e.turn.ran)
@@ -100,24 +104,27 @@ module _ {s : Controller} {b keys ranks : List ℕ} {x k : ℕ} (e : Emptying s 
   pub core_inside : k < max_cores
   core_inside = omega (arith, in_use, e.turn.consistent.m_le)
 
-  module _ {c : Core} (read : c ≡ core_at u k) where
+  -- c is the record that is read
+  module _ {c : Core} (read : c ≡ core_from b (core_place k)) where
+    is : c ≡ core_at u k
+    is = read ∙ read_core e.held k core_inside
+
     marked : (core_at (soiled_all u) k).message.dirty ≡ c.message.filled
-    marked = rw (soiled_core u k, read)
+    marked = rw (soiled_core u k, is)
 
     pub box_names : NamesSource c.message
     box_names f =
-        let filled : (core_at (soiled_all u) k).message.filled ≡ true = rw (soiled_core u k, ← read) f in
+        let filled : (core_at (soiled_all u) k).message.filled ≡ true = rw (soiled_core u k, ← is) f in
         let held : Holding (soiled_all u) (core_at (soiled_all u) k) = e.turn.consistent.backed k in_use filled in
-        let same : (core_at (soiled_all u) k).message.source.0 ≡ c.message.source.0 = rw (soiled_core u k, ← read) in
+        let same : (core_at (soiled_all u) k).message.source.0 ≡ c.message.source.0 = rw (soiled_core u k, ← is) in
         (omega (arith, held.some_id, same), omega (arith, held.id_le, same, e.turn.consistent.n_le))
 
     pub emptying_filled :
-        c.message.filled ≡ true → {b' keys' ranks' : List ℕ} → Retracts k c b keys ranks b' keys' ranks' →
-        Emptying s b' keys' ranks' (x + 1) (k + 1)
-    emptying_filled f {b'} {keys'} {ranks'} done =
-        let after : Held (retract u k) b' keys' ranks' = done u e.held read in
+        c.message.filled ≡ true → {b' : List ℕ} {g' : Ranking} → Retracts k c b g b' g' → Emptying s b' g' (x + 1) (k + 1)
+    emptying_filled f {b'} {g'} done =
+        let after : Held (retract u k) b' g' = done u e.held is in
         let more : Retracting (soiled_all s) (retract (soiled_all u) k) (x + 1) (k + 1) =
-        retracting_dirty (soiled_all s) (soiled_all u) x k e.turn k_lt (marked ∙ f) in
+        retracting_dirty (soiled_all s) (soiled_all u) x k e.turn below (marked ∙ f) in
         record {
           held = held_here after;
           clean =
@@ -128,17 +135,17 @@ module _ {s : Controller} {b keys ranks : List ℕ} {x k : ℕ} (e : Emptying s 
               (soiled_retract u k ∙ ap soiled_all (sym (held_back after))) more;
         }
 
-    pub emptying_empty : c.message.filled ≡ false → Emptying s b keys ranks x (k + 1)
+    pub emptying_empty : c.message.filled ≡ false → Emptying s b g x (k + 1)
     emptying_empty f =
         record {
           held = e.held;
           clean = e.clean;
-          turn = retracting_clean (soiled_all s) (soiled_all u) x k e.turn k_lt (marked ∙ f);
+          turn = retracting_clean (soiled_all s) (soiled_all u) x k e.turn below (marked ∙ f);
         }
 
 pub emptying_all :
-    {b b' keys ranks : List ℕ} {x k : ℕ} → Emptying (state_from b) b' keys ranks x k → (state_from b).m ≤ k → Emptied b x b' keys ranks
-emptying_all {b} {b'} {keys} {ranks} {x} {k} e all =
+    {b b' : List ℕ} {g : Ranking} {x k : ℕ} → Emptying (state_from b) b' g x k → (state_from b).m ≤ k → Emptied b x b' g
+emptying_all {b} {b'} {g} {x} {k} e all =
     let u : Controller = state_from b' in
     let after : AfterRetractions (soiled_all (state_from b)) (soiled_all u) x =
     retracting_all (soiled_all (state_from b)) (soiled_all u) x k e.turn all in

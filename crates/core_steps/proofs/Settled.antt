@@ -7,15 +7,16 @@ use Rattle.model.specs.declared.Controller.{Controller}
 use Rattle.model.specs.Settling.{settle, cycles_of}
 use Rattle.settling.proofs.Determined.{after_settles, after_counts}
 use Rattle.layout.specs.Bytes.{state_from}
+use Rattle.in_place.specs.declared.Ranking.{Ranking}
 use Rattle.in_place.specs.Held.{Held}
 use Rattle.core_steps.specs.Phases.{soiled_all, Emptied, Delivered, Settled}
 
-module _ {b b₁ keys₁ ranks₁ : List ℕ} {x : ℕ} (e : Emptied b x b₁ keys₁ ranks₁) where
+module _ {b b₁ : List ℕ} {g₁ : Ranking} {x : ℕ} (e : Emptied b x b₁ g₁) where
   -- 2m cycles less those of the retractions are enough for the deliveries
   pub settled_by :
-      {y : ℕ} {b₂ keys₂ ranks₂ : List ℕ} →
-      Delivered b₁ y b₂ keys₂ ranks₂ → Settled (soiled_all (state_from b)) (x + y) b₂ keys₂ ranks₂
-  settled_by {y} {b₂} {keys₂} {ranks₂} d =
+      {y : ℕ} {b₂ : List ℕ} {g₂ : Ranking} →
+      Delivered b₁ y b₂ g₂ → Settled (soiled_all (state_from b)) (x + y) b₂ g₂
+  settled_by {y} {b₂} {g₂} d =
       let s : Controller = soiled_all (state_from b) in
       let f : ℕ = 2 * s.m - x in
       let all : x + f ≡ 2 * s.m = omega (arith, e.after.cycles_le) in
@@ -25,7 +26,7 @@ module _ {b b₁ keys₁ ranks₁ : List ℕ} {x : ℕ} (e : Emptied b x b₁ ke
       = state_is ∙ sym (after_settles e.after f) ∙ ap (λ (g : ℕ). settle g s) all in
       let counted : cycles_of (x + f) s ≡ x + cycles_of f (state_from b₁) = after_counts e.after f in
       record {
-        held = subst (λ (u : Controller). Held u b₂ keys₂ ranks₂) reached d.held;
+        held = subst (λ (u : Controller). Held u b₂ g₂) reached d.held;
         cycles_are =
             omega (arith, count-is, counted) ∙ ap (λ (g : ℕ). cycles_of g s) all;
       }

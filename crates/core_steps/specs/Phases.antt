@@ -12,6 +12,7 @@ use Rattle.model.specs.Commands.{soiled}
 use Rattle.settling.specs.Phases.{Delivering}
 use Rattle.settling.specs.Runs.{AfterRetractions, AfterDeliveries}
 use Rattle.layout.specs.Bytes.{state_from}
+use Rattle.in_place.specs.declared.Ranking.{Ranking}
 use Rattle.in_place.specs.Held.{Held}
 
 abbrev pub soiled_all : Controller → Controller
@@ -21,25 +22,25 @@ soiled_all u = with_cores u (map soiled u.cores)
 abbrev pub AllClean : Controller → Type 0
 AllClean u = (k : ℕ) → (core_at u k).message.dirty ≡ false
 
-pub record Soiled (b keys ranks : List ℕ) : Type 0 where
-  pub held : Held (state_from b) b keys ranks
+pub record Soiled (b : List ℕ) (g : Ranking) : Type 0 where
+  pub held : Held (state_from b) b g
   pub clean : AllClean (state_from b)
   pub consistent : Consistent (soiled_all (state_from b))
 
-pub record Emptied (b : List ℕ) (x : ℕ) (b' keys' ranks' : List ℕ) : Type 0 where
-  pub held : Held (state_from b') b' keys' ranks'
+pub record Emptied (b : List ℕ) (x : ℕ) (b' : List ℕ) (g' : Ranking) : Type 0 where
+  pub held : Held (state_from b') b' g'
   pub after : AfterRetractions (soiled_all (state_from b)) (state_from b') x
 
-pub record Undelivered (b keys ranks : List ℕ) : Type 0 where
-  pub held : Held (state_from b) b keys ranks
+pub record Undelivered (b : List ℕ) (g : Ranking) : Type 0 where
+  pub held : Held (state_from b) b g
   pub consistent : Consistent (state_from b)
   pub delivering : Delivering (state_from b)
 
-pub record Delivered (b : List ℕ) (x : ℕ) (b' keys' ranks' : List ℕ) : Type 0 where
-  pub held : Held (state_from b') b' keys' ranks'
+pub record Delivered (b : List ℕ) (x : ℕ) (b' : List ℕ) (g' : Ranking) : Type 0 where
+  pub held : Held (state_from b') b' g'
   pub after : AfterDeliveries (state_from b) (state_from b') x
   pub few : x ≤ (state_from b).m
 
-pub record Settled (s : Controller) (x : ℕ) (b' keys' ranks' : List ℕ) : Type 0 where
-  pub held : Held (settle (2 * s.m) s) b' keys' ranks'
+pub record Settled (s : Controller) (x : ℕ) (b' : List ℕ) (g' : Ranking) : Type 0 where
+  pub held : Held (settle (2 * s.m) s) b' g'
   pub cycles_are : x ≡ cycles_of (2 * s.m) s

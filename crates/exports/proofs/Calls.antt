@@ -3,10 +3,10 @@
 --   bad_bytes, bad_number, execute_went           `execute_call`
 --   run_fit, run_unfit, run_by                    `run_call`: a run, none, either
 --   run_ran, run_unread, run_no_room              the same from what the loop has left, and from the tests before it
-use Prim.Native.Nat.{ℕ, ◌+◌, ◌*◌}
+use Prim.Native.Nat.{ℕ}
 use mathlib.Core.Path.{◌≡◌, refl, sym, ◌∙◌, ap, subst}
 use mathlib.Core.List.{List}
-use mathlib.Core.Bool.{Bool, true, false, and-false}
+use mathlib.Core.Bool.{true, false, and-false}
 use lib.ListN.{length}
 use lib.Seq.{sets}
 use borrow.Author.Tests.{eq-eqb, ne_eqb}
@@ -18,12 +18,14 @@ use Rattle.model.specs.declared.Decoded.TheVariants.{Unknown, Known}
 use Rattle.model.specs.declared.Answer.{Answer}
 use Rattle.model.specs.Commands.{execute, make, run}
 use Rattle.layout.specs.Commands.{command_of}
-use Rattle.layout.specs.Bytes.{state_size, state_bytes, state_from, is_state, commands_in, unreadable, packed, Call, call_of, Does, make_call}
+use Rattle.layout.specs.Bytes.{state_size, state_bytes, state_from, is_state, commands_in, unreadable, packed_as, packed, Call, call_of, Does, make_call}
 use Rattle.layout.specs.Bytes.{executed_on, execute_call, DoesRun, no_count, room_for, fits_run, RunCall, run_call_of, run_call}
 use Rattle.layout.proofs.Answers.{read_command, answers_from, controller}
 use Rattle.layout.proofs.Lists.{Ran}
-use Rattle.in_place.specs.declared.Outcome.{Outcome}
-use Rattle.in_place.specs.Steps.{Says}
+use Rattle.std.proofs.Common.{Option}
+use Rattle.in_place.specs.declared.Ranking.{Ranking}
+use Rattle.in_place.specs.Steps.{Outcome, Says}
+use Rattle.in_place.proofs.Refused.{says_same}
 use Rattle.steps.specs.Going.{Went}
 
 done : (r : ℕ) (b : List ℕ) (call : Call) → call ≡ call_of r b → Does r b call
@@ -67,13 +69,12 @@ module _ (number at p : ℕ) (b : List ℕ) where
     bad_number f = done unreadable b (execute_call number at p b) (executed ∙ rw f)
 
     pub execute_went :
-        {r : ℕ} {c : Command} {sound : Bool} {o : Outcome} {b' keys' ranks' : List ℕ} → d ≡ Known c →
-        Went (execute (state_from b) c) sound o b' keys' ranks' → r ≡ o.number + 256 * (o.id.0 + 65536 * o.cycles) →
+        {r n i y : ℕ} {c : Command} {o : Outcome} {b' : List ℕ} {g' : Option Ranking} → d ≡ Known c →
+        Went (execute (state_from b) c) o b' g' → Says o n i y → r ≡ packed_as n i y →
         Does r b' (execute_call number at p b)
-    execute_went {r} {c} {sound} {o} {b'} f w er =
-        let a : Answer = execute (state_from b) c in
-        let (number_is, id_is, cycles_are) : Says o a.number a.id.0 a.cycles = w.says in
-        answered r b' a (execute_call number at p b) (executed ∙ rw f) (er ∙ rw (number_is, id_is, cycles_are))
+    execute_went {r} {c = c} {o} {b'} f w told er =
+        let (number_is, id_is, cycles_are) = says_same o told w.says in
+        answered r b' (execute (state_from b) c) (execute_call number at p b) (executed ∙ rw f) (er ∙ rw (number_is, id_is, cycles_are))
         (w.going.whole ∙ ap state_bytes w.state_is)
 
 -- ---- a list of commands
@@ -102,11 +103,11 @@ module _ (b list answers : List ℕ) where
       go (off e) = subst P (sym (run_unfit e)) unfit
 
   pub run_ran :
-      {r : ℕ} {b' answers' : List ℕ} {s : Controller} → is_state b ≡ true →
-      Ran read_command controller list answers (state_from b) r answers' s → b' ≡ state_bytes s →
+      {r count : ℕ} {b' answers' : List ℕ} {s : Controller} → is_state b ≡ true →
+      Ran read_command controller list answers (state_from b) count answers' s → r ≡ count → b' ≡ state_bytes s →
       DoesRun r b' answers' (run_call b list answers)
   unfolding run_call
-  run_ran e ran eb = rw (e, ran.fits) (ran.count, eb ∙ ap state_bytes ran.state, ran.written)
+  run_ran e ran er eb = rw (e, ran.fits) (er ∙ ran.count, eb ∙ ap state_bytes ran.state, ran.written)
 
   refused : fits_run b list answers ≡ false → DoesRun no_count b answers (run_call b list answers)
   refused e = rw (run_unfit e) (refl, refl, refl)

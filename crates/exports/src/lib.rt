@@ -6,7 +6,7 @@
 ghost use Rattle.layout.specs.Bytes.{Does, make_call, execute_call, DoesRun, run_call};
 
 use layout::{COMMAND_SIZE, NO_COUNT, STATE_SIZE, UNREADABLE};
-use model::{CORES, Decoded, SOURCES};
+use model::Decoded;
 
 // A fresh controller of n sources and m cores, written as bytes. Sizes out of range are refused by 2, and the buffer stays as it was.
 pub fn psic_make(n: u16, m: u16, state: &mut [u8]) -> u64
@@ -35,11 +35,10 @@ pub fn psic_execute(state: &mut [u8], number: u16, at: u16, priority: u16) -> u6
     match decoding::command(number, at, priority) {
         Decoded::Unknown => UNREADABLE,
         Decoded::Known(c) => {
-            let mut keys = [0; CORES];
-            let mut ranks = [0; SOURCES];
-            let sound = steps::begin(state, &mut keys, &mut ranks);
-            let o = steps::step(state, &mut keys, &mut ranks, sound, c);
-            encoding::packed(o.number, o.id, o.cycles)
+            let mut ranking = steps::begin(state);
+            let o = steps::step(state, &mut ranking, c);
+            let (number, id, cycles) = in_place::numbers_of(o);
+            encoding::packed(number, id, cycles)
         }
     }
 }
@@ -50,33 +49,26 @@ pub fn psic_run(state: &mut [u8], list: &[u8], answers: &mut [u8]) -> u64
     ensures { DoesRun result state.new answers.new
         (run_call state.old list.now answers.old) }
 {
-    if list.len() % COMMAND_SIZE != 0 {
+    if list.len() % COMMAND_SIZE != 0 || answers.len() < list.len() || !decoding::is_state(state) {
         return NO_COUNT;
     }
-    if answers.len() < list.len() {
-        return NO_COUNT;
-    }
-    if !decoding::is_state(state) {
-        return NO_COUNT;
-    }
-    let mut keys = [0; CORES];
-    let mut ranks = [0; SOURCES];
-    let sound = steps::begin(state, &mut keys, &mut ranks);
-    let mut i = 0;
-    while i < list.len() {
+    let mut ranking = steps::begin(state);
+    let count = list.len() / COMMAND_SIZE;
+    for k in 0..count {
+        let i = COMMAND_SIZE * k;
         let read = decoding::command(
             list[i] as u16,
             decoding::word_at(list, i + 1),
             decoding::word_at(list, i + 3),
         );
         match read {
-            Decoded::Unknown => break,
+            Decoded::Unknown => return k as u64,
             Decoded::Known(c) => {
-                let o = steps::step(state, &mut keys, &mut ranks, sound, c);
-                encoding::put_answer(answers, i, o.number, o.id, o.cycles);
+                let o = steps::step(state, &mut ranking, c);
+                let (number, id, cycles) = in_place::numbers_of(o);
+                encoding::put_answer(answers, i, number, id, cycles);
             }
         }
-        i += COMMAND_SIZE;
     }
-    (i / COMMAND_SIZE) as u64
+    count as u64
 }

@@ -6,8 +6,9 @@
 --   execute s c     the whole command, on any state: a refused one hands back the state it was given, id 0 and 0 cycles; a trigger
 --                   refused by 6 hands it back with one more dropped trigger at its source
 --   make n m        a fresh controller, or refusal 2 with the fresh one of sizes (1, 1)
+--   number_for r    the number of a refusal by its name in code; number_in, that of a result, 0 for one that isn't refused
 --   run s cs        the state after a list of commands, refused ones included
-use Rattle.std.specs.Prelude.{ℕ, ◌*◌, List, map, Bool, true, false, not, cond, get_or, set, ltb, leb, eqb}
+use Rattle.std.specs.Prelude.{ℕ, ◌*◌, List, map, Bool, true, false, not, cond, get_or, set, ltb, leb, eqb, Result, Ok, Err}
 use Rattle.model.specs.declared.SourceId.{SourceId}
 use Rattle.model.specs.declared.CoreId.{CoreId}
 use Rattle.model.specs.declared.Source.{Source}
@@ -20,6 +21,9 @@ use Rattle.model.specs.declared.SourceAction.{SourceAction}
 use Rattle.model.specs.declared.SourceAction.TheVariants.{SetSourcePriority, Mask, Unmask, Trigger, Redeliver, Complete}
 use Rattle.model.specs.declared.CoreAction.{CoreAction}
 use Rattle.model.specs.declared.CoreAction.TheVariants.{SetCorePriority, Claim}
+use Rattle.model.specs.declared.Refusal.{Refusal}
+use Rattle.model.specs.declared.Refusal.TheVariants.{Malformed, BadSize, BadCore, BadSource, BadPriority, AlreadyPending, NothingToClaim}
+use Rattle.model.specs.declared.Refusal.TheVariants.{NotClaimed, PriorityInUse}
 use Rattle.model.specs.Records.{index_of, with_configured, with_mask, with_delivered, opened, ended, empty_box, dirtied, core_with, no_core}
 use Rattle.model.specs.Records.{dropped_one, source_at, core_at, with_cores, with_source, reset, answer}
 use Rattle.model.specs.Priorities.{top_priority}
@@ -86,6 +90,21 @@ not_claimed = 8
 -- The priority belongs to a request that is pending: waiting, in a box or claimed.
 abbrev pub priority_in_use : ℕ
 priority_in_use = 9
+
+abbrev pub number_for : Refusal → ℕ
+number_for Malformed = malformed
+number_for BadSize = bad_size
+number_for BadCore = bad_core
+number_for BadSource = bad_source
+number_for BadPriority = bad_priority
+number_for AlreadyPending = already_pending
+number_for NothingToClaim = nothing_to_claim
+number_for NotClaimed = not_claimed
+number_for PriorityInUse = priority_in_use
+
+abbrev pub number_in : {A : Type 0} → Result A Refusal → ℕ
+number_in (Ok x) = 0
+number_in (Err r) = number_for r
 
 -- The number if the check fails, else what the later checks say.
 abbrev pub unless : Bool → ℕ → ℕ → ℕ

@@ -4,6 +4,9 @@
 // Widths: ids, core numbers and priorities are u16, so that up to 1,023 sources with priorities up to 2,047 fit.
 #![tactic(auto)]
 
+ghost use Rattle.std.specs.Prelude.{◌≡◌};
+ghost use Rattle.model.specs.Commands.{number_for};
+
 // The largest sizes: n is 1 to 128, m is 1 to 32.
 pub const SOURCES: usize = 128;
 
@@ -11,7 +14,7 @@ pub const CORES: usize = 32;
 
 // A source's id, 1 to n; 0 means none. Never a core number.
 #[repr(C)]
-#[derive(Clone, Copy)]
+#[derive(Clone, Copy, Debug, PartialEq, Eq)]
 pub struct SourceId(pub u16);
 
 // A core's number, 0 to m - 1. Never a source id.
@@ -92,6 +95,50 @@ pub enum Command {
 pub enum Decoded {
     Unknown,
     Known(Command),
+}
+
+// Why a command is refused: document 01's "Numbers for no", and document 02's from 9 on. Answers hold the number; 0 is success.
+#[derive(Clone, Copy, Debug, PartialEq, Eq)]
+pub enum Refusal {
+    // the state isn't sound, or a filled lent record is bad
+    Malformed = 1,
+    // a size out of range, or a lent list that is too long
+    BadSize = 2,
+    BadCore = 3,
+    BadSource = 4,
+    BadPriority = 5,
+    AlreadyPending = 6,
+    NothingToClaim = 7,
+    NotClaimed = 8,
+    // the priority belongs to a request that is pending
+    PriorityInUse = 9,
+}
+
+impl From<Refusal> for u8 {
+    ghost from_gives = { λ r number. number ≡ number_for r };
+
+    fn from(r: Refusal) -> u8 {
+        r as u8
+    }
+}
+
+// What an accepted command answers besides the state: the claimed id, 0 for every other command, and the cycles of settling.
+#[derive(Clone, Copy, Debug, PartialEq, Eq)]
+pub struct Accepted {
+    pub id: SourceId,
+    pub cycles: u16,
+}
+
+impl Accepted {
+    // Nothing is claimed.
+    pub fn after(cycles: u16) -> Self
+        ensures { (result.id.0 ≡ 0) × (result.cycles ≡ cycles) }
+    {
+        Accepted {
+            id: SourceId(0),
+            cycles,
+        }
+    }
 }
 
 // What every call answers: the state handed back, document 01's number (0 is success),

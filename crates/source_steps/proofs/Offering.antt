@@ -26,9 +26,9 @@ use Rattle.arbitration.proofs.LeastCore.{least_below}
 use Rattle.arbitration.proofs.Told.{least_told}
 use Rattle.layout.specs.Bytes.{core_from, state_from}
 use Rattle.layout.proofs.InPlace.{core_read}
-use Rattle.in_place.specs.declared.Outcome.{Outcome}
+use Rattle.in_place.specs.declared.Ranking.{Ranking}
 use Rattle.in_place.specs.Held.{core_place, NamesSource, Delivers}
-use Rattle.in_place.specs.Steps.{Says, Leaves}
+use Rattle.in_place.specs.Steps.{Outcome, Says, Leaves}
 use Rattle.source_steps.specs.Offers.{Offered}
 
 above_by_number : (c : Core) (r : Source) (i : ℕ) → interrupted_by c r ≡ ltb (current_priority c) (priority_of (rank_at i r))
@@ -40,8 +40,8 @@ above_by_number c r i = go (flag (candidate r))
 
 -- no candidate: its number is 0
 pub offer_none :
-    {b keys ranks : List ℕ} {m i : ℕ} {r : Source} (o : Offered (state_from b) b keys ranks m i r) {x : Outcome} → get_or ranks i 0 ≡ 0 →
-    Says x 0 0 0 → Leaves (delivered_once (state_from b) i) x b keys ranks
+    {b : List ℕ} {g : Ranking} {m i : ℕ} {r : Source} (o : Offered (state_from b) b g m i r) {x : Outcome} → get_or g.ranks i 0 ≡ 0 →
+    Says x 0 0 0 → Leaves (delivered_once (state_from b) i) x b g
 offer_none {b} {i = i} o e says =
     let s : Controller = state_from b in
     let low : Core = core_at s (least s.cores s.m) in
@@ -50,8 +50,8 @@ offer_none {b} {i = i} o e says =
     above_by_number low (source_at s i) i ∙ le-ltb (current_priority low) (priority_of (rank_at i (source_at s i))) (omega (arith, number)) in
     rw calm (record { says = says; held = o.held })
 
-module _ {b keys ranks : List ℕ} {m i : ℕ} {r : Source} (o : Offered (state_from b) b keys ranks m i r) {key : ℕ}
-    (lowest : LowestOf keys m key) where
+module _ {b : List ℕ} {g : Ranking} {m i : ℕ} {r : Source} (o : Offered (state_from b) b g m i r) {key : ℕ}
+    (lowest : LowestOf g.keys m key) where
   abbrev s : Controller
   s = state_from b
 
@@ -60,16 +60,16 @@ module _ {b keys ranks : List ℕ} {m i : ℕ} {r : Source} (o : Offered (state_
 
   told : (core_of key ≡ low) × (current_of key ≡ current_priority (core_at s low))
   told =
-      least_told s.cores s.m keys o.consistent.m_le o.held.numbered.keyed
-      (subst (λ (j : ℕ). LowestOf keys j key) o.cores_are lowest)
+      least_told s.cores s.m g.keys o.consistent.m_le o.held.numbered.keyed
+      (subst (λ (j : ℕ). LowestOf g.keys j key) o.cores_are lowest)
 
-  module _ {p q : ℕ} (ep : p ≡ priority_of (get_or ranks i 0)) (eq : q ≡ current_of key) where
+  module _ {p q : ℕ} (ep : p ≡ priority_of (get_or g.ranks i 0)) (eq : q ≡ current_of key) where
     decided : interrupted_by (core_at s low) (source_at s i) ≡ ltb q p
     decided =
         above_by_number (core_at s low) (source_at s i) i ∙
         sym (ap₂ ltb (eq ∙ told.1) (ep ∙ ap priority_of (o.held.numbered.ranked i o.source_in)))
 
-    pub offer_rests : {x : Outcome} → p ≤ q → Says x 0 0 0 → Leaves (delivered_once s i) x b keys ranks
+    pub offer_rests : {x : Outcome} → p ≤ q → Says x 0 0 0 → Leaves (delivered_once s i) x b g
     offer_rests {x} h says =
         let calm : interrupted_by (core_at s low) (source_at s i) ≡ false = decided ∙ le-ltb q p h in
         rw calm (record { says = says; held = o.held })
@@ -91,8 +91,8 @@ module _ {b keys ranks : List ℕ} {m i : ℕ} {r : Source} (o : Offered (state_
           rw record_at (held.some_id, omega (arith, held.id_le, o.consistent.n_le))
 
       pub offer_delivers :
-          {p q : ℕ} {x : Outcome} {b' keys' ranks' : List ℕ} → p ≡ priority_of (get_or ranks i 0) → q ≡ current_of key → q < p →
-          Delivers i r k c b keys ranks b' keys' ranks' → Says x 0 0 1 → Leaves (delivered_once s i) x b' keys' ranks'
+          {p q : ℕ} {x : Outcome} {b' : List ℕ} {g' : Ranking} → p ≡ priority_of (get_or g.ranks i 0) → q ≡ current_of key → q < p →
+          Delivers i r k c b g b' g' → Says x 0 0 1 → Leaves (delivered_once s i) x b' g'
       offer_delivers {p} {q} ep eq h delivers says =
           let wins : interrupted_by (core_at s low) (source_at s i) ≡ true = decided ep eq ∙ lt-ltb q p h in
           rw (wins, ← (found ∙ told.0)) (record { says = says; held = delivers s o.held o.record_is record_at })

@@ -11,36 +11,28 @@ ghost use Rattle.in_place.specs.Steps.{Ready, Leaves, Executed};
 ghost use Rattle.source_steps.specs.Offers.{Offered};
 
 use arbitration::places;
-use checks::numbers::{ALREADY_PENDING, BAD_SOURCE};
-use in_place::{Outcome, answered};
-use model::{CORES, Command, SOURCES, Source, SourceAction, SourceId};
+use in_place::{Outcome, Ranking};
+use model::{Accepted, Command, Refusal, Source, SourceAction, SourceId};
 
 // The request of source i + 1, whose record is r, goes to the least of m cores, if it is a candidate and strictly above it. A delivery is
 // one cycle. No core is looked for where there is no candidate.
-fn offer(
-    state: &mut [u8],
-    keys: &mut [u32; CORES],
-    ranks: &mut [u32; SOURCES],
-    m: usize,
-    i: usize,
-    r: Source,
-) -> Outcome
-    requires { Offered (state_from state.old) state.old keys.old ranks.old m i r }
+fn offer(state: &mut [u8], ranking: &mut Ranking, m: usize, i: usize, r: Source) -> Outcome
+    requires { Offered (state_from state.old) state.old ranking.old m i r }
     ensures { Leaves (delivered_once (state_from state.old) i) result
-        state.new keys.new ranks.new }
+        state.new ranking.new }
 {
-    let rank = ranks[i];
+    let rank = ranking.ranks[i];
     if rank == 0 {
-        return answered(0, SourceId(0), 0);
+        return Ok(Accepted::after(0));
     }
-    let key = places::lowest(keys, m);
+    let key = places::lowest(&ranking.keys, m);
     if places::priority_of(rank) <= places::current_of(key) {
-        return answered(0, SourceId(0), 0);
+        return Ok(Accepted::after(0));
     }
     let k = places::core_of(key);
     let c = decoding::core_at(state, k);
-    in_place::deliver(state, keys, ranks, i, r, k, c);
-    answered(0, SourceId(0), 1)
+    in_place::deliver(state, ranking, i, r, k, c);
+    Ok(Accepted::after(1))
 }
 
 // Whether a filled box of the first m cores names the source.
@@ -48,17 +40,10 @@ fn boxed(state: &[u8], m: usize, id: SourceId) -> bool
     requires { (length state.now ≡ state_size) × (m ≤ max_cores) }
     ensures { result ≡ boxed_in (state_from state.now).cores m id.0 }
 {
-    let mut k = 0;
-    while k < m {
-        let c = decoding::core_at(state, k);
-        if c.message.filled {
-            if c.message.source.0 == id.0 {
-                return true;
-            }
-        }
-        k += 1;
-    }
-    false
+    (0..m).any(|k| {
+        let held = decoding::core_at(state, k).message;
+        held.filled && held.source == id
+    })
 }
 
 // Whether the request of a source, whose record is r, is claimed: pending, delivered, and in no box.
@@ -66,44 +51,30 @@ pub fn is_claimed(state: &[u8], m: usize, id: SourceId, r: Source) -> bool
     requires { (length state.now ≡ state_size) × (m ≤ max_cores) }
     ensures { result ≡ r.pending && r.delivered && not (boxed_in (state_from state.now).cores m id.0) }
 {
-    if !r.pending {
-        return false;
-    }
-    if !r.delivered {
-        return false;
-    }
-    !boxed(state, m, id)
+    r.pending && r.delivered && !boxed(state, m, id)
 }
 
 // A command on a source: decided by its record, then stored. A trigger refused because one is pending is counted in that record.
-pub fn on_source(
-    state: &mut [u8],
-    keys: &mut [u32; CORES],
-    ranks: &mut [u32; SOURCES],
-    id: SourceId,
-    a: SourceAction,
-) -> Outcome
-    requires { Ready state.old keys.old ranks.old }
+pub fn on_source(state: &mut [u8], ranking: &mut Ranking, id: SourceId, a: SourceAction) -> Outcome
+    requires { Ready state.old ranking.old }
     ensures { Executed state.old (Command.OnSource id a) result
-        state.new keys.new ranks.new }
+        state.new ranking.new }
 {
-    let n = decoding::word_at(state, 0);
+    let n = in_place::sources_in(state);
     if !checks::names_source(n, id) {
-        return answered(BAD_SOURCE, SourceId(0), 0);
+        return Err(Refusal::BadSource);
     }
     let i = id.0 as usize - 1;
-    let m = decoding::word_at(state, 2) as usize;
+    let m = in_place::cores_in(state) as usize;
     let r = decoding::source_at(state, i);
     let claimed = is_claimed(state, m, id, r);
-    let number = checks::source_refusal(n, r, claimed, a);
-    if number == ALREADY_PENDING {
-        in_place::put_source(state, ranks, i, records::dropped_one(r));
-        return answered(number, SourceId(0), 0);
-    }
-    if number != 0 {
-        return answered(number, SourceId(0), 0);
+    if let Err(refusal) = checks::source_refusal(n, r, claimed, a) {
+        if refusal == Refusal::AlreadyPending {
+            in_place::put_source(state, ranking, i, records::dropped_one(r));
+        }
+        return Err(refusal);
     }
     let next = records::source_after(a, r);
-    in_place::put_source(state, ranks, i, next);
-    offer(state, keys, ranks, m, i, next)
+    in_place::put_source(state, ranking, i, next);
+    offer(state, ranking, m, i, next)
 }

@@ -2,45 +2,38 @@
 // unsound one by 1, which leaves it as it was.
 #![tactic(auto)]
 
-ghost use Rattle.std.specs.Prelude.{◌≡◌, true, length};
-ghost use Rattle.model.specs.Records.{max_sources, max_cores};
+ghost use Rattle.std.specs.Prelude.{◌≡◌, true};
 ghost use Rattle.model.specs.Commands.{execute};
 ghost use Rattle.layout.specs.Bytes.{is_state, state_from};
 ghost use Rattle.steps.specs.Going.{Going, Went};
 
-use checks::numbers::MALFORMED;
-use in_place::Outcome;
-use model::{CORES, Command, SOURCES, SourceId};
+use in_place::{Outcome, Ranking};
+use model::{Command, Refusal};
 
-// Whether the state is sound; if it is, the numbers of its cores and sources are made.
-pub fn begin(state: &[u8], keys: &mut [u32; CORES], ranks: &mut [u32; SOURCES]) -> bool
-    requires { (is_state state.now ≡ true) × (length keys.old ≡ max_cores) × (length ranks.old ≡ max_sources) }
-    ensures { Going result state.now keys.new ranks.new }
+// The numbers of the state's cores and sources, if it is sound.
+pub fn begin(state: &[u8]) -> Option<Ranking>
+    requires { is_state state.now ≡ true }
+    ensures { Going result state.now }
 {
-    let sound = state_test::well_formed(state);
-    if sound {
-        in_place::number_all(state, keys, ranks);
+    if !state_test::well_formed(state) {
+        return None;
     }
-    sound
+    let mut ranking = Ranking::new();
+    in_place::number_all(state, &mut ranking);
+    Some(ranking)
 }
 
-// One command.
-pub fn step(
-    state: &mut [u8],
-    keys: &mut [u32; CORES],
-    ranks: &mut [u32; SOURCES],
-    sound: bool,
-    c: Command,
-) -> Outcome
-    requires { Going sound state.old keys.old ranks.old }
-    ensures { Went (execute (state_from state.old) c) sound result
-        state.new keys.new ranks.new }
+// One command, on a state of which `begin` has answered.
+pub fn step(state: &mut [u8], ranking: &mut Option<Ranking>, c: Command) -> Outcome
+    requires { Going ranking.old state.old }
+    ensures { Went (execute (state_from state.old) c) result
+        state.new ranking.new }
 {
-    if !sound {
-        return in_place::answered(MALFORMED, SourceId(0), 0);
-    }
+    let Some(ranking) = ranking else {
+        return Err(Refusal::Malformed);
+    };
     match c {
-        Command::OnSource(id, a) => source_steps::on_source(state, keys, ranks, id, a),
-        Command::OnCore(core, a) => core_steps::on_core(state, keys, ranks, core, a),
+        Command::OnSource(id, a) => source_steps::on_source(state, ranking, id, a),
+        Command::OnCore(core, a) => core_steps::on_core(state, ranking, core, a),
     }
 }

@@ -1,10 +1,7 @@
 -- `exports::psic_execute` meets its contract: bytes that encode no state and numbers that name no command are refused, and past both
 -- tests the command runs on the state that the bytes encode. Assumes nothing.
-use mathlib.Core.Path.{◌≡◌}
-use mathlib.Core.Bool.{true}
-use Rattle.layout.specs.Bytes.{is_state}
-use Rattle.exports.proofs.Calls.{bad_number, bad_bytes, execute_went}
 use Rattle.std.proofs.Common.{sym, ◌∙◌}
+use Rattle.exports.proofs.Calls.{bad_number, bad_bytes, execute_went}
 use Rattle.exports.proofs.psic_execute.Goals as goal
 
 pub returns-then-not-is_state : goal.returns-then-not-is_state
@@ -14,14 +11,12 @@ returns-then-not-is_state c =
 
 pub returns-in-Unknown : goal.returns-in-Unknown
 returns-in-Unknown c =
-    let readable : is_state c.args.state.now ≡ true = sym c.is_state.ensures ∙ c.if-not-is_state.false in
     let a = c.args in
-    bad_number a.number a.at a.priority a.state.now c.command.result readable c.command.ensures
-    c.in-Unknown.is
+    bad_number a.number a.at a.priority a.state.now c.command.result (sym c.is_state.ensures ∙ c.if-not-is_state.false)
+    c.command.ensures c.in-Unknown.is
 
 pub returns-in-Known : goal.returns-in-Known
 returns-in-Known c =
-    let readable : is_state c.args.state.now ≡ true = sym c.is_state.ensures ∙ c.if-not-is_state.false in
     let a = c.args in
-    execute_went a.number a.at a.priority a.state.now c.command.result readable c.command.ensures
-    c.in-Known.is c.step-o.ensures c.packed.ensures
+    execute_went a.number a.at a.priority a.state.now c.command.result (sym c.is_state.ensures ∙ c.if-not-is_state.false)
+    c.command.ensures c.in-Known.is c.step-o.ensures c.numbers_of-number.ensures c.packed.ensures

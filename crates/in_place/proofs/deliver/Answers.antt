@@ -5,6 +5,5 @@ use Rattle.in_place.proofs.deliver.Goals as goal
 pub returns : goal.returns
 returns c =
     λ s h at_i at-k.
-    held_delivered h c.requires.2 at-k c.put_back.ensures c.requires.1 at_i c.with_delivered.ensures
-    c.put_source.ensures.0 c.put_source.ensures.1 c.filled_with.ensures c.put_core.ensures.0
-    c.put_core.ensures.1
+    held_delivered h c.requires.2 at-k c.put_back.ensures c.requires.1 at_i c.with_delivered.ensures c.put_source.ensures
+    c.filled_with.ensures c.put_core.ensures

@@ -4,6 +4,4 @@ use Rattle.in_place.proofs.put_back.Goals as goal
 
 pub returns-then-c : goal.returns-then-c
 returns-then-c c =
-    λ s keys h.
-    back_filled h c.args.c.message c.requires.1 c.if-c.true c.source_at-r.ensures c.with_delivered.ensures
-    c.put_source.ensures.0 c.put_source.ensures.1
+    λ s h. back_filled h c.args.c.message c.requires.1 c.if-c.true c.source_at-r.ensures c.with_delivered.ensures c.put_source.ensures

@@ -3,7 +3,4 @@ use Rattle.in_place.proofs.Stored.{held_retracted}
 use Rattle.in_place.proofs.retract.Goals as goal
 
 pub returns : goal.returns
-returns c =
-    λ s h at-k.
-    held_retracted h c.requires.1 at-k c.put_back.ensures c.emptied.ensures c.put_core.ensures.0
-    c.put_core.ensures.1
+returns c = λ s h at-k. held_retracted h c.requires.1 at-k c.put_back.ensures c.emptied.ensures c.put_core.ensures

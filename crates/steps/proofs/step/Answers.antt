@@ -3,22 +3,17 @@
 use Rattle.steps.proofs.Gone.{go_refused, ready, gone_on}
 use Rattle.steps.proofs.step.Goals as goal
 
-pub returns-then-not-sound : goal.returns-then-not-sound
-returns-then-not-sound c =
-    go_refused c.requires c.args.c (c.if-not-sound.true) c.answered.ensures
+pub returns-in_default : goal.returns-in_default
+returns-in_default c = go_refused _ c.args.c c.requires c.in_default.is
 
 pub on_source-requires : goal.on_source-requires
-on_source-requires c =
-    ready c.requires c.args.c (c.if-not-sound.false)
+on_source-requires c = ready _ c.args.c c.requires c.in-Some.is
 
 pub on_core-requires : goal.on_core-requires
-on_core-requires c =
-    ready c.requires c.args.c (c.if-not-sound.false)
+on_core-requires c = ready _ c.args.c c.requires c.in-Some.is
 
 pub returns-in-OnSource : goal.returns-in-OnSource
-returns-in-OnSource c =
-    gone_on c.requires c.args.c (c.if-not-sound.false) c.in-OnSource.is c.on_source.ensures
+returns-in-OnSource c = gone_on _ c.args.c c.requires c.in-Some.is c.in-OnSource.is c.on_source.ensures
 
 pub returns-in-OnCore : goal.returns-in-OnCore
-returns-in-OnCore c =
-    gone_on c.requires c.args.c (c.if-not-sound.false) c.in-OnCore.is c.on_core.ensures
+returns-in-OnCore c = gone_on _ c.args.c c.requires c.in-Some.is c.in-OnCore.is c.on_core.ensures
