@@ -1,26 +1,28 @@
 -- What each call answers and writes, from what the functions that it calls hand back. Assumes nothing.
 --   make_unfit, make_refused, make_done    `make_routines_call`
 --   call_unread, call_went                 `routine_call`
-use Prim.Native.Nat.{ℕ, ◌+◌, ◌*◌}
+use Prim.Native.Nat.{ℕ}
 use mathlib.Core.Path.{◌≡◌, refl, ◌∙◌, subst}
 use mathlib.Core.Logic.{◌≢◌}
 use mathlib.Core.List.{List}
-use mathlib.Core.Bool.{Bool, true, false, and-false}
+use mathlib.Core.Bool.{true, false, and-false}
 use lib.ListN.{length, replicate}
 use native.Mathlib.Omega.{arith}
 use borrow.Author.Tests.{eq-eqb, ne_eqb}
-use Rattle.std.proofs.Common.{◌⊎◌, inl, inr}
+use Rattle.std.proofs.Common.{Option, ◌⊎◌, inl, inr}
 use Rattle.lists.proofs.Bools.{and_in}
 use Rattle.model.specs.declared.Answer.{Answer}
 use Rattle.model.specs.Records.{max_sources, max_cores}
 use Rattle.model.specs.Commands.{make}
-use Rattle.layout.specs.Bytes.{state_size, state_bytes, unreadable}
+use Rattle.layout.specs.Bytes.{state_size, state_bytes, packed_as, unreadable}
 use Rattle.routines.specs.declared.Routines.{Routines}
 use Rattle.routines.specs.declared.RoutineCall.{RoutineCall}
 use Rattle.routines.specs.Routines.{call_routine}
 use Rattle.routines.specs.Calls.{routines_in, is_simulation, packed_call, DoesCall, fits_make, make_routines_call, routine_call}
-use Rattle.routine_steps.specs.declared.Stepped.{Stepped}
-use Rattle.routine_steps.specs.Simulated.{taken_from, Says, Went}
+use Rattle.in_place.specs.declared.Ranking.{Ranking}
+use Rattle.in_place.specs.Steps.{Says as OutcomeSays}
+use Rattle.in_place.proofs.Refused.{says_same}
+use Rattle.routine_steps.specs.Simulated.{Stepped, outcome_in, Went}
 
 module _ (b active holder : List ℕ) where
   -- ---- making
@@ -63,13 +65,13 @@ module _ (b active holder : List ℕ) where
   call_unread c e = rw e (refl, refl, refl, refl)
 
   pub call_went :
-      (c : RoutineCall) {r : ℕ} {sound : Bool} {o : Stepped} {b' active' holder' keys' ranks' : List ℕ} →
-      is_simulation b active holder ≡ true → Went (routines_in b active holder) c sound o b' active' holder' keys' ranks' →
-      r ≡ o.number + 256 * (o.id.0 + 65536 * o.cycles) → DoesCall r b' active' holder' (routine_call c b active holder)
+      (c : RoutineCall) {r n i y : ℕ} {o : Stepped} {b' active' holder' : List ℕ} {g' : Option Ranking} →
+      is_simulation b active holder ≡ true → Went (routines_in b active holder) c o b' active' holder' g' →
+      OutcomeSays (outcome_in o) n i y → r ≡ packed_as n i y → DoesCall r b' active' holder' (routine_call c b active holder)
   unfolding routine_call
-  call_went c {r} {sound} {o} {b'} {active'} {holder'} e went er =
+  call_went c {r} {o = o} {b'} {active'} {holder'} e went told er =
       let s = routines_in b active holder in
-      let (number_is, id_is, cycles_are, from_is) : Says o (call_routine s c) (taken_from s c) = went.says in
+      let (number_is, id_is, cycles_are) = says_same (outcome_in o) told went.says.0 in
       let is : Routines → Type 0 = λ x. (b' ≡ state_bytes x.controller) × (active' ≡ x.active) × (holder' ≡ x.holder) in
       let result : r ≡ packed_call (call_routine s c) = er ∙ rw (number_is, id_is, cycles_are) refl in
       let (bytes, actives, holders) : is (call_routine s c).state

@@ -45,11 +45,10 @@ fn called(state: &mut [u8], active: &mut [u16], holder: &mut [u16], c: RoutineCa
     if !routine_test::is_simulation(state, active, holder) {
         return UNREADABLE;
     }
-    let mut keys = [0; CORES];
-    let mut ranks = [0; SOURCES];
-    let sound = routine_steps::begin(state, active, holder, &mut keys, &mut ranks);
-    let o = routine_steps::step(state, active, holder, &mut keys, &mut ranks, sound, c);
-    encoding::packed(o.number, o.id, o.cycles)
+    let mut ranking = routine_steps::begin(state, active, holder);
+    let o = routine_steps::step(state, active, holder, &mut ranking, c);
+    let (number, id, cycles) = routine_steps::numbers_of(o);
+    encoding::packed(number, id, cycles)
 }
 
 // Entry of a routine on a core.

@@ -29,13 +29,15 @@ use Rattle.layout.proofs.Lists.{room_whole, room_enough, RunTo, Ran, run_none, r
 use Rattle.routines.specs.declared.Routines.{Routines}
 use Rattle.routines.specs.declared.RoutineCall.{RoutineCall}
 use Rattle.routines.specs.declared.RoutineCall.TheVariants.{Direct, Enter, Exit}
-use Rattle.routines.specs.Routines.{holder_number, call_refusal, call_routine, Handovers, box_holder, counted, table_after}
+use Rattle.routines.specs.Routines.{holder_number, call_refusal, Handovers, box_holder, counted, table_after}
 use Rattle.routines.specs.Calls.{one_call, call_of, routines_in, table_in, table_words, DoesSimulate, fits_simulate}
 use Rattle.routines.specs.Calls.{simulate_call}
 use Rattle.routine_laws.proofs.Standing.{sound_accepted, enter_checked}
 use Rattle.routine_laws.proofs.Called.{Counting, counting, routines_machine}
-use Rattle.routine_steps.specs.declared.Stepped.{Stepped}
-use Rattle.routine_steps.specs.Simulated.{taken_from, Says, Went}
+use Rattle.in_place.specs.declared.Ranking.{Ranking}
+use Rattle.in_place.specs.Steps.{Says as OutcomeSays}
+use Rattle.in_place.proofs.Refused.{says_same}
+use Rattle.routine_steps.specs.Simulated.{Stepped, outcome_in, from_in, taken_from, Went}
 
 abbrev pub read_call : ℕ → ℕ → ℕ → List RoutineCall
 read_call number at p = one_call (call_of number at p)
@@ -121,23 +123,24 @@ some_number (Some k) e = λ z. omega (arith, z)
 
 -- the same of what a step answers
 module _
-    (b : List ℕ) {active holder : List ℕ} {c : RoutineCall} {sound : Bool} {o : Stepped} {b' active' holder' keys' ranks' : List ℕ}
+    (b : List ℕ) {active holder : List ℕ} {c : RoutineCall} {o : Stepped} {b' active' holder' : List ℕ} {g' : Option Ranking}
     (t : Handovers) (number at p : ℕ) (named : call_of number at p ≡ Some c)
-    (went : Went (routines_in b active holder) c sound o b' active' holder' keys' ranks') where
-  from_is : holder_number o.from ≡ taken_from (routines_in b active holder) c
-  from_is = went.says.3
+    (went : Went (routines_in b active holder) c o b' active' holder' g')
+    (from : Option CoreId) (held : holder_number from ≡ from_in o) where
+  from_is : holder_number from ≡ taken_from (routines_in b active holder) c
+  from_is = held ∙ went.says.1
 
-  pub kept_by : {t' : Handovers} → is_some o.from ≡ false → t' ≡ t → t' ≡ table_after t (routines_in b active holder) c
-  kept_by e et = et ∙ sym (none_counted t (routines_in b active holder) c (sym from_is ∙ none_number o.from e))
+  pub kept_by : {t' : Handovers} → is_some from ≡ false → t' ≡ t → t' ≡ table_after t (routines_in b active holder) c
+  kept_by e et = et ∙ sym (none_counted t (routines_in b active holder) c (sym from_is ∙ none_number from e))
 
-  module _ (h : is_some o.from ≡ true) where
+  module _ (h : is_some from ≡ true) where
     some : taken_from (routines_in b active holder) c ≢ 0
-    some z = some_number o.from h (from_is ∙ z)
+    some z = some_number from h (from_is ∙ z)
 
-    pub count_fits : (holder_number o.from ≤ max_cores) × (at < max_cores)
+    pub count_fits : (holder_number from ≤ max_cores) × (at < max_cores)
     count_fits = let (few, inside) = in_table t (routines_in b active holder) number at p named some in (omega (arith, from_is, few), inside)
 
-    pub raised_by : {t' : Handovers} → t' ≡ counted t (holder_number o.from) at → t' ≡ table_after t (routines_in b active holder) c
+    pub raised_by : {t' : Handovers} → t' ≡ counted t (holder_number from) at → t' ≡ table_after t (routines_in b active holder) c
     raised_by et =
         et ∙ ap (λ (x : ℕ). counted t x at) from_is ∙ sym (one_counted t (routines_in b active holder) number at p named some)
 
@@ -153,16 +156,15 @@ simulate_none list answers table s room e =
 
 pub simulate_more :
     {list answers₀ answers answers' : List ℕ} {x₀ : Counting} {counts counts' : Handovers} {i : ℕ} (b : List ℕ) {active holder : List ℕ}
-    {c : RoutineCall} {sound : Bool} {o : Stepped} {b' active' holder' keys' ranks' : List ℕ} →
+    {c : RoutineCall} {o : Stepped} {n id y : ℕ} {b' active' holder' : List ℕ} {g' : Option Ranking} →
     RunTo read_call routines_machine list answers₀ x₀ answers (counting (routines_in b active holder) counts) i → i < length list →
-    read_at read_call list i ≡ c ∷ [] → Went (routines_in b active holder) c sound o b' active' holder' keys' ranks' →
-    answers' ≡ sets answers i (o.number ∷ (word o.id.0 ++ word o.cycles)) →
+    read_at read_call list i ≡ c ∷ [] → Went (routines_in b active holder) c o b' active' holder' g' →
+    OutcomeSays (outcome_in o) n id y → answers' ≡ sets answers i (n ∷ (word id ++ word y)) →
     counts' ≡ table_after counts (routines_in b active holder) c →
     RunTo read_call routines_machine list answers₀ x₀ answers' (counting (routines_in b' active' holder') counts') (i + command_size)
-simulate_more b {active} {holder} {c} {o = o} t h read went ea ec =
-    let s = routines_in b active holder in
-    let (number_is, id_is, cycles_are, from_is) : Says o (call_routine s c) (taken_from s c) = went.says in
-    run_more t h read (rw (went.state_is, ec) refl) ea (same_bytes_lem (number_is, id_is, cycles_are))
+simulate_more b {o = o} t h read went told ea ec =
+    let said = says_same (outcome_in o) told went.says.0 in
+    run_more t h read (rw (went.state_is, ec) refl) ea (same_bytes_lem said)
 
 -- ---- the whole list
 

@@ -7,7 +7,7 @@ ghost use Rattle.std.specs.Prelude.{◌≡◌, true};
 ghost use Rattle.routines.specs.Calls.{call_of, DoesSimulate, fits_simulate, simulate_call};
 
 use layout::{COMMAND_SIZE, NO_COUNT};
-use model::{CORES, CoreId, SOURCES, SourceId};
+use model::{CORES, CoreId, SourceId};
 use routines::{DirectAction, RoutineCall};
 
 // The call that three numbers name: a command by its own number, entry by 16, exit by 17.
@@ -41,9 +41,7 @@ fn simulate_all(
         (simulate_call state.old active.old holder.old list.now answers.old
         table.old) }
 {
-    let mut keys = [0; CORES];
-    let mut ranks = [0; SOURCES];
-    let sound = routine_steps::begin(state, active, holder, &mut keys, &mut ranks);
+    let mut ranking = routine_steps::begin(state, active, holder);
     let mut counts = handovers::table_in(table);
     let mut i = 0;
     while i < list.len() {
@@ -52,10 +50,12 @@ fn simulate_all(
         let Some(c) = read else {
             break;
         };
-        let o = routine_steps::step(state, active, holder, &mut keys, &mut ranks, sound, c);
-        encoding::put_answer(answers, i, o.number, o.id, o.cycles);
-        if o.from.is_some() {
-            let raised = handovers::count(counts, o.from, CoreId(at));
+        let o = routine_steps::step(state, active, holder, &mut ranking, c);
+        let (number, id, cycles) = routine_steps::numbers_of(o);
+        encoding::put_answer(answers, i, number, id, cycles);
+        let from = routine_steps::last_holder(o);
+        if from.is_some() {
+            let raised = handovers::count(counts, from, CoreId(at));
             counts = raised;
         }
         i += COMMAND_SIZE;

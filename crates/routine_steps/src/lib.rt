@@ -5,33 +5,48 @@
 ghost use Rattle.std.specs.Prelude.{◌<◌, ◌≡◌, true, length};
 ghost use Rattle.model.specs.Records.{max_sources, max_cores};
 ghost use Rattle.layout.specs.Bytes.{is_state, state_from};
-ghost use Rattle.in_place.specs.Steps.{Ready, Leaves};
+ghost use Rattle.in_place.specs.Steps.{cycles_in, Says, Ready, Leaves};
 ghost use Rattle.routines.specs.Routines.{holder_number, hand_back, holder_after};
 ghost use Rattle.routines.specs.Calls.{routines_in};
-ghost use Rattle.routine_steps.specs.Simulated.{Standing, Did, Running, Went};
+ghost use Rattle.routine_steps.specs.Simulated.{outcome_in, from_in, Standing, Did, Running, Went};
 
-use checks::numbers::{BAD_CORE, MALFORMED, NOT_CLAIMED};
-use in_place::Outcome;
-use model::{CORES, CoreAction, CoreId, SOURCES, SourceAction, SourceId};
+use in_place::{Outcome, Ranking};
+use model::{Accepted, CoreAction, CoreId, Refusal, SourceAction, SourceId};
 use routines::{DirectAction, RoutineCall};
 
-// What a call answers besides the simulation, and the core that last held the request that an accepted entry takes, if one did.
+// What an accepted call answers besides the simulation, and the core that last held the request that an entry takes, if one did.
 #[derive(Clone, Copy)]
-pub struct Stepped {
-    pub number: u8,
-    pub id: SourceId,
-    pub cycles: u16,
+pub struct AcceptedCall {
+    pub accepted: Accepted,
     pub from: Option<CoreId>,
 }
 
-fn answered(number: u8, id: SourceId, cycles: u16, from: Option<CoreId>) -> Stepped
-    ensures { (result.number ≡ number) × (result.id.0 ≡ id.0) × (result.cycles ≡ cycles) × (holder_number result.from ≡ holder_number from) }
+pub type Stepped = Result<AcceptedCall, Refusal>;
+
+// The same as document 01's number, 0 for success, with the claimed id, 0 for none, and the cycles.
+pub fn numbers_of(o: Stepped) -> (u8, SourceId, u16)
+    ensures { Says (outcome_in o) result.0 result.1.0 result.2 }
 {
-    Stepped {
-        number,
-        id,
-        cycles,
-        from,
+    in_place::numbers_of(o.map(|call| call.accepted))
+}
+
+// The core that last held the request that an entry has taken.
+pub fn last_holder(o: Stepped) -> Option<CoreId>
+    ensures { holder_number result ≡ from_in o }
+{
+    match o {
+        Ok(call) => call.from,
+        Err(_) => None,
+    }
+}
+
+// Nothing is claimed, and no request is taken.
+fn after(cycles: u16) -> AcceptedCall
+    ensures { (result.accepted.id.0 ≡ 0) × (result.accepted.cycles ≡ cycles) × (result.from ≡ None) }
+{
+    AcceptedCall {
+        accepted: Accepted::after(cycles),
+        from: None,
     }
 }
 
@@ -57,41 +72,31 @@ fn command(
     state: &mut [u8],
     active: &[u16],
     holder: &mut [u16],
-    keys: &mut [u32; CORES],
-    ranks: &mut [u32; SOURCES],
+    ranking: &mut Ranking,
     id: SourceId,
     a: DirectAction,
 ) -> Stepped
-    requires { Standing state.old active.now holder.old keys.old ranks.old }
+    requires { Standing state.old active.now holder.old ranking.old }
     ensures { Did (routines_in state.old active.now holder.old) (RoutineCall.Direct id a) result
-        state.new active.now holder.new keys.new ranks.new }
+        state.new active.now holder.new ranking.new }
 {
-    let o = source_steps::on_source(state, keys, ranks, id, a.into());
-    if o.number != 0 {
-        return answered(o.number, SourceId(0), 0, None);
-    }
+    let accepted = source_steps::on_source(state, ranking, id, a.into())?;
     hold_after(holder, a, id.0 as usize - 1);
-    answered(0, SourceId(0), o.cycles, None)
+    Ok(after(accepted.cycles))
 }
 
-// Listing 1, `if (prev != 0) cpu.redeliver(prev)`.
-fn hand_back(
-    state: &mut [u8],
-    keys: &mut [u32; CORES],
-    ranks: &mut [u32; SOURCES],
-    interrupted: u16,
-) -> Outcome
-    requires { Ready state.old keys.old ranks.old }
+// Listing 1, `if (prev != 0) cpu.redeliver(prev)`. Document 01 has id 0 for none, and so have the words of the active ids in memory.
+fn hand_back(state: &mut [u8], ranking: &mut Ranking, interrupted: u16) -> Outcome
+    requires { Ready state.old ranking.old }
     ensures { Leaves (hand_back (state_from state.old) interrupted) result
-        state.new keys.new ranks.new }
+        state.new ranking.new }
 {
     if interrupted == 0 {
-        return in_place::answered(0, SourceId(0), 0);
+        return Ok(Accepted::after(0));
     }
     source_steps::on_source(
         state,
-        keys,
-        ranks,
+        ranking,
         SourceId(interrupted),
         SourceAction::Redeliver,
     )
@@ -102,26 +107,35 @@ fn enter(
     state: &mut [u8],
     active: &mut [u16],
     holder: &mut [u16],
-    keys: &mut [u32; CORES],
-    ranks: &mut [u32; SOURCES],
+    ranking: &mut Ranking,
     core: CoreId,
 ) -> Stepped
-    requires { Standing state.old active.old holder.old keys.old ranks.old }
+    requires { Standing state.old active.old holder.old ranking.old }
     ensures { Did (routines_in state.old active.old holder.old) (RoutineCall.Enter core) result
-        state.new active.new holder.new keys.new ranks.new }
+        state.new active.new holder.new ranking.new }
 {
-    let claimed = core_steps::on_core(state, keys, ranks, core, CoreAction::Claim);
-    if claimed.number != 0 {
-        return answered(claimed.number, SourceId(0), 0, None);
-    }
+    let claimed = core_steps::on_core(state, ranking, core, CoreAction::Claim)?;
     let k = core.0 as usize;
-    let back = hand_back(state, keys, ranks, active[k]);
+    let back = hand_back(state, ranking, active[k]);
     let id = claimed.id;
     let i = id.0 as usize - 1;
     let from = holder_from(holder[i]);
     active[k] = id.0;
     holder[i] = core.0 + 1;
-    answered(0, id, claimed.cycles + back.cycles, from)
+    Ok(AcceptedCall {
+        accepted: Accepted {
+            id,
+            cycles: claimed.cycles + cycles_of(back),
+        },
+        from,
+    })
+}
+
+// The cycles of a command that the routines give beside others: of its refusal they make nothing.
+fn cycles_of(o: Outcome) -> u16
+    ensures { result ≡ cycles_in o }
+{
+    o.map_or(0, |accepted| accepted.cycles)
 }
 
 // Listing 1, exit: complete the active request, and set the core to 0.
@@ -129,75 +143,59 @@ fn exit(
     state: &mut [u8],
     active: &mut [u16],
     holder: &[u16],
-    keys: &mut [u32; CORES],
-    ranks: &mut [u32; SOURCES],
+    ranking: &mut Ranking,
     core: CoreId,
 ) -> Stepped
-    requires { Standing state.old active.old holder.now keys.old ranks.old }
+    requires { Standing state.old active.old holder.now ranking.old }
     ensures { Did (routines_in state.old active.old holder.now) (RoutineCall.Exit core) result
-        state.new active.new holder.now keys.new ranks.new }
+        state.new active.new holder.now ranking.new }
 {
-    if !checks::names_core(decoding::word_at(state, 2), core) {
-        return answered(BAD_CORE, SourceId(0), 0, None);
+    if !checks::names_core(in_place::cores_in(state), core) {
+        return Err(Refusal::BadCore);
     }
     let k = core.0 as usize;
     let id = active[k];
     if id == 0 {
-        return answered(NOT_CLAIMED, SourceId(0), 0, None);
+        return Err(Refusal::NotClaimed);
     }
-    let completed = source_steps::on_source(
-        state,
-        keys,
-        ranks,
-        SourceId(id),
-        SourceAction::Complete,
-    );
-    let lowered = core_steps::on_core(state, keys, ranks, core, CoreAction::SetCorePriority(0));
+    let completed = source_steps::on_source(state, ranking, SourceId(id), SourceAction::Complete);
+    let lowered = core_steps::on_core(state, ranking, core, CoreAction::SetCorePriority(0));
     active[k] = 0;
-    answered(0, SourceId(0), completed.cycles + lowered.cycles, None)
+    Ok(after(cycles_of(completed) + cycles_of(lowered)))
 }
 
-// Whether the simulation is sound; if it is, the numbers of its cores and sources are made.
-pub fn begin(
-    state: &[u8],
-    active: &[u16],
-    holder: &[u16],
-    keys: &mut [u32; CORES],
-    ranks: &mut [u32; SOURCES],
-) -> bool
-    requires { (is_state state.now ≡ true) × (length active.now ≡ max_cores) × (length holder.now ≡ max_sources) ×
-        (length keys.old ≡ max_cores) × (length ranks.old ≡ max_sources) }
-    ensures { Running result state.now active.now holder.now
-        keys.new ranks.new }
+// The numbers of the cores and sources of a simulation, if it is sound.
+pub fn begin(state: &[u8], active: &[u16], holder: &[u16]) -> Option<Ranking>
+    requires { (is_state state.now ≡ true) × (length active.now ≡ max_cores) × (length holder.now ≡ max_sources) }
+    ensures { Running result state.now active.now holder.now }
 {
-    let sound = routine_test::sound(state, active, holder);
-    if sound {
-        in_place::number_all(state, keys, ranks);
+    if !routine_test::sound(state, active, holder) {
+        return None;
     }
-    sound
+    let mut ranking = Ranking::new();
+    in_place::number_all(state, &mut ranking);
+    Some(ranking)
 }
 
-// One call.
+// One call, on a simulation of which `begin` has answered.
 #[inline(always)]
 pub fn step(
     state: &mut [u8],
     active: &mut [u16],
     holder: &mut [u16],
-    keys: &mut [u32; CORES],
-    ranks: &mut [u32; SOURCES],
-    sound: bool,
+    ranking: &mut Option<Ranking>,
     c: RoutineCall,
 ) -> Stepped
-    requires { Running sound state.old active.old holder.old keys.old ranks.old }
-    ensures { Went (routines_in state.old active.old holder.old) c sound result
-        state.new active.new holder.new keys.new ranks.new }
+    requires { Running ranking.old state.old active.old holder.old }
+    ensures { Went (routines_in state.old active.old holder.old) c result
+        state.new active.new holder.new ranking.new }
 {
-    if !sound {
-        return answered(MALFORMED, SourceId(0), 0, None);
-    }
+    let Some(ranking) = ranking else {
+        return Err(Refusal::Malformed);
+    };
     match c {
-        RoutineCall::Direct(id, a) => command(state, active, holder, keys, ranks, id, a),
-        RoutineCall::Enter(core) => enter(state, active, holder, keys, ranks, core),
-        RoutineCall::Exit(core) => exit(state, active, holder, keys, ranks, core),
+        RoutineCall::Direct(id, a) => command(state, active, holder, ranking, id, a),
+        RoutineCall::Enter(core) => enter(state, active, holder, ranking, core),
+        RoutineCall::Exit(core) => exit(state, active, holder, ranking, core),
     }
 }

@@ -37,29 +37,25 @@ pub fn call(s: Routines, c: RoutineCall) -> RoutineAnswer
     let mut holder = s.holder;
     let mut bytes = [0u8; STATE_SIZE];
     encoding::put_state(&mut bytes[..], controller);
-    let mut keys = [0; CORES];
-    let mut ranks = [0; SOURCES];
-    let sound = routine_steps::begin(&bytes[..], &active[..], &holder[..], &mut keys, &mut ranks);
+    let mut ranking = routine_steps::begin(&bytes[..], &active[..], &holder[..]);
     let o = routine_steps::step(
         &mut bytes[..],
         &mut active[..],
         &mut holder[..],
-        &mut keys,
-        &mut ranks,
-        sound,
+        &mut ranking,
         c,
     );
+    let (number, id, cycles) = routine_steps::numbers_of(o);
     let after = decoding::state_from(&bytes[..]);
     let state = Routines {
         controller: after,
         active,
         holder,
     };
-    let id = o.id;
     RoutineAnswer {
         state,
-        number: o.number,
+        number,
         id,
-        cycles: o.cycles,
+        cycles,
     }
 }

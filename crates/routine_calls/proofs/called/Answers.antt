@@ -12,4 +12,4 @@ pub returns : goal.returns
 returns c =
     let a = c.args in
     call_went a.state.now a.active.now a.holder.now a.c (sym c.is_simulation.ensures ∙ c.if-not-is_simulation.false)
-    c.step-o.ensures c.packed.ensures
+    c.step-o.ensures c.numbers_of-number.ensures c.packed.ensures

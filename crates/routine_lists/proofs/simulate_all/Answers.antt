@@ -14,7 +14,7 @@ pub count-raised-requires : goal.count-raised-requires
 count-raised-requires c =
     let l = c.loop-i in
     let named = sym c.call_of-read.ensures ∙ c.in-Some.is in
-    count_fits l.state l.counts (get_or c.args.list.now l.i 0) c.word_at-at.result c.word_at.result named c.step-o.ensures (sym c.is_some.ensures ∙ c.if-is_some.true)
+    count_fits l.state l.counts (get_or c.args.list.now l.i 0) c.word_at-at.result c.word_at.result named c.step-o.ensures c.last_holder-from.result c.last_holder-from.ensures (sym c.is_some.ensures ∙ c.if-is_some.true)
 
 pub loop-i-preserved : goal.loop-i-preserved
 loop-i-preserved c =
@@ -27,10 +27,10 @@ loop-i-preserved c =
     let counted : c.if-is_some.counts ≡ table_after l.counts (routines_in l.state l.active l.holder) c.in-Some.c =
     elim c.if-is_some.branch [
       | then-is_some w ↦
-          raised_by l.state l.counts number at p named c.step-o.ensures (sym c.is_some.ensures ∙ w.if-is_some.true) (w.counts-is ∙ w.count-raised.ensures)
-      | else-is_some w ↦ kept_by l.state l.counts number at p named c.step-o.ensures (sym c.is_some.ensures ∙ w.if-is_some.false) w.counts-is
+          raised_by l.state l.counts number at p named c.step-o.ensures c.last_holder-from.result c.last_holder-from.ensures (sym c.is_some.ensures ∙ w.if-is_some.true) (w.counts-is ∙ w.count-raised.ensures)
+      | else-is_some w ↦ kept_by l.state l.counts number at p named c.step-o.ensures c.last_holder-from.result c.last_holder-from.ensures (sym c.is_some.ensures ∙ w.if-is_some.false) w.counts-is
     ] in (
-      simulate_more l.state l.invariant.0 c.loop-i-test.true read c.step-o.ensures c.put_answer.ensures counted,
+      simulate_more l.state l.invariant.0 c.loop-i-test.true read c.step-o.ensures c.numbers_of-number.ensures c.put_answer.ensures counted,
       c.step-o.ensures.running,
     )
 

@@ -14,7 +14,7 @@ abbrev pub invariant-loop-i : goal.invariant-loop-i
 invariant-loop-i l =
     RunTo read_call routines_machine l.list l.initial.answers
     (counting (routines_in l.initial.state l.initial.active l.initial.holder) (table_in l.table)) l.answers
-    (counting (routines_in l.state l.active l.holder) l.counts) l.i × Running l.sound l.state l.active l.holder l.keys l.ranks
+    (counting (routines_in l.state l.active l.holder) l.counts) l.i × Running l.ranking l.state l.active l.holder
 
 abbrev pub decreases-loop-i : goal.decreases-loop-i
 decreases-loop-i l = length l.list - l.i

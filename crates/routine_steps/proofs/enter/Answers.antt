@@ -1,41 +1,44 @@
 -- `routine_steps::enter` meets its contract: refused as its claim is; else claimed, handed back, and two numbers stored. Assumes nothing.
-use mathlib.Core.Path.{refl, ◌∙◌}
-use Rattle.std.proofs.Common.{arith}
+use mathlib.Core.Path.{◌≡◌, refl}
+use Rattle.std.proofs.Common.{arith, rules, Err}
+use Rattle.in_place.proofs.Refused.{number_not_zero}
 use Rattle.routine_steps.proofs.Done.{enter_refused, enter_ready, enter_core, enter_source, enter_cycles, enter_done}
 use Rattle.routine_steps.proofs.enter.Goals as goal
 
-pub returns-then-claimed-ne0 : goal.returns-then-claimed-ne0
-returns-then-claimed-ne0 c = enter_refused c.requires c.args.core c.on_core-claimed.ensures c.if-claimed-ne0.true c.answered.ensures
+pub returns-in_err-claimed : goal.returns-in_err-claimed
+returns-in_err-claimed c =
+    let e = c.in_err-claimed.field-0.0 in
+    let passed : c.from_residual.result ≡ Err e = search rules in
+    enter_refused c.requires c.args.core c.in_err-claimed.ensures (number_not_zero e) (rw passed ((refl, refl, refl), refl))
 
 pub bounds-active-k : goal.bounds-active-k
-bounds-active-k c = enter_core c.requires c.args.core c.on_core-claimed.ensures c.if-claimed-ne0.false
+bounds-active-k c = enter_core c.requires c.args.core c.in_ok-claimed.ensures refl
 
 pub hand_back-back-requires : goal.hand_back-back-requires
-hand_back-back-requires c = enter_ready c.requires c.args.core c.on_core-claimed.ensures
+hand_back-back-requires c = enter_ready c.requires c.args.core c.in_ok-claimed.ensures
 
 pub overflow_sub-i : goal.overflow_sub-i
-overflow_sub-i c = omega (arith, (enter_source c.requires c.args.core c.on_core-claimed.ensures c.if-claimed-ne0.false).0)
+overflow_sub-i c = omega (arith, (enter_source c.requires c.args.core c.in_ok-claimed.ensures refl).0)
 
 pub bounds-holder-i : goal.bounds-holder-i
-bounds-holder-i c = (enter_source c.requires c.args.core c.on_core-claimed.ensures c.if-claimed-ne0.false).1
+bounds-holder-i c = (enter_source c.requires c.args.core c.in_ok-claimed.ensures refl).1
 
 pub bounds-active-k-2 : goal.bounds-active-k-2
-bounds-active-k-2 c = enter_core c.requires c.args.core c.on_core-claimed.ensures c.if-claimed-ne0.false
+bounds-active-k-2 c = enter_core c.requires c.args.core c.in_ok-claimed.ensures refl
 
 pub overflow_add-holder : goal.overflow_add-holder
 overflow_add-holder c =
-    let inside = enter_core c.requires c.args.core c.on_core-claimed.ensures c.if-claimed-ne0.false in
-    omega (arith, c.requires.sound.active_length)
+    let inside = enter_core c.requires c.args.core c.in_ok-claimed.ensures refl in
+    omega (arith, inside, c.requires.sound.active_length)
 
 pub bounds-holder-i-2 : goal.bounds-holder-i-2
-bounds-holder-i-2 c = (enter_source c.requires c.args.core c.on_core-claimed.ensures c.if-claimed-ne0.false).1
+bounds-holder-i-2 c = (enter_source c.requires c.args.core c.in_ok-claimed.ensures refl).1
 
-pub overflow_add-claimed : goal.overflow_add-claimed
-overflow_add-claimed c =
-    omega (arith, enter_cycles c.requires c.args.core c.on_core-claimed.ensures c.if-claimed-ne0.false c.hand_back-back.ensures)
+pub overflow_add-result : goal.overflow_add-result
+overflow_add-result c =
+    omega (arith, enter_cycles c.requires c.args.core c.in_ok-claimed.ensures refl c.hand_back-back.ensures, c.cycles_of.ensures)
 
 pub returns : goal.returns
 returns c =
-    let (number, id, cycles, from) = c.answered-2.ensures in
-    enter_done c.requires c.args.core c.on_core-claimed.ensures c.if-claimed-ne0.false c.hand_back-back.ensures
-    (number, id, cycles, from ∙ c.holder_from-from.ensures) refl refl
+    enter_done c.requires c.args.core c.in_ok-claimed.ensures refl c.hand_back-back.ensures
+    ((refl, refl, rw c.cycles_of.ensures), c.holder_from-from.ensures) refl refl

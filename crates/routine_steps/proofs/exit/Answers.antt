@@ -1,45 +1,44 @@
 -- `routine_steps::exit` meets its contract: the two checks, then the request completed and the core set to 0. Assumes nothing.
-use mathlib.Core.Path.{refl}
+use mathlib.Core.Path.{refl, ap, ◌∙◌}
 use Rattle.std.proofs.Common.{arith}
-use Rattle.in_place.proofs.Stored.{held_length}
+use Rattle.routines.specs.Routines.{holder_number}
 use Rattle.routine_steps.proofs.Numbers.{core_refused, idle_core}
 use Rattle.routine_steps.proofs.Done.{exit_named, exit_core, exit_accepted, exit_refused, exit_ready, exit_cycles, exit_done}
 use Rattle.routine_steps.proofs.exit.Goals as goal
 
-pub word_at-requires : goal.word_at-requires
-word_at-requires c = omega (arith, held_length c.requires.held)
-
 pub returns-then-not-names_core : goal.returns-then-not-names_core
 returns-then-not-names_core c =
-    let unnamed = exit_named c.requires c.args.core c.word_at.ensures c.names_core.ensures c.if-not-names_core.true in
+    let unnamed = exit_named c.requires c.args.core c.cores_in.ensures c.names_core.ensures c.if-not-names_core.true in
     exit_refused c.requires c.args.core 3 (core_refused _ c.requires.sound c.args.core unnamed) (λ z. absurd (omega (arith, z)))
-    c.answered.ensures
+    ((refl, refl, refl), refl)
 
 pub bounds-active-k : goal.bounds-active-k
 bounds-active-k c =
     exit_core c.requires c.args.core
-    (exit_named c.requires c.args.core c.word_at.ensures c.names_core.ensures c.if-not-names_core.false)
+    (exit_named c.requires c.args.core c.cores_in.ensures c.names_core.ensures c.if-not-names_core.false)
 
 pub returns-then-id-eq0 : goal.returns-then-id-eq0
 returns-then-id-eq0 c =
-    let named = exit_named c.requires c.args.core c.word_at.ensures c.names_core.ensures c.if-not-names_core.false in
+    let named = exit_named c.requires c.args.core c.cores_in.ensures c.names_core.ensures c.if-not-names_core.false in
     exit_refused c.requires c.args.core 8 (idle_core _ c.requires.sound c.args.core named c.if-id-eq0.true)
-    (λ z. absurd (omega (arith, z))) c.answered-then-id-eq0.ensures
+    (λ z. absurd (omega (arith, z))) ((refl, refl, refl), refl)
 
 pub on_core-lowered-requires : goal.on_core-lowered-requires
 on_core-lowered-requires c =
-    let named = exit_named c.requires c.args.core c.word_at.ensures c.names_core.ensures c.if-not-names_core.false in
+    let named = exit_named c.requires c.args.core c.cores_in.ensures c.names_core.ensures c.if-not-names_core.false in
     let accepted = exit_accepted c.requires c.args.core named c.if-id-eq0.false in
     exit_ready c.requires c.args.core accepted c.on_source-completed.ensures
 
-pub overflow_add-completed : goal.overflow_add-completed
-overflow_add-completed c =
-    let named = exit_named c.requires c.args.core c.word_at.ensures c.names_core.ensures c.if-not-names_core.false in
+pub overflow_add-cycles_of : goal.overflow_add-cycles_of
+overflow_add-cycles_of c =
+    let named = exit_named c.requires c.args.core c.cores_in.ensures c.names_core.ensures c.if-not-names_core.false in
     let accepted = exit_accepted c.requires c.args.core named c.if-id-eq0.false in
-    omega (arith, exit_cycles c.requires c.args.core accepted c.on_source-completed.ensures c.on_core-lowered.ensures)
+    omega (arith, exit_cycles c.requires c.args.core accepted c.on_source-completed.ensures c.on_core-lowered.ensures, c.cycles_of.ensures, c.cycles_of-2.ensures)
 
 pub returns : goal.returns
 returns c =
-    let named = exit_named c.requires c.args.core c.word_at.ensures c.names_core.ensures c.if-not-names_core.false in
+    let named = exit_named c.requires c.args.core c.cores_in.ensures c.names_core.ensures c.if-not-names_core.false in
     let accepted = exit_accepted c.requires c.args.core named c.if-id-eq0.false in
-    exit_done c.requires c.args.core accepted c.on_source-completed.ensures c.on_core-lowered.ensures c.answered-2.ensures refl
+    let (id, cycles, from) = c.after.ensures in
+    exit_done c.requires c.args.core accepted c.on_source-completed.ensures c.on_core-lowered.ensures
+    ((refl, id, cycles ∙ rw (c.cycles_of.ensures, c.cycles_of-2.ensures)), ap holder_number from) refl

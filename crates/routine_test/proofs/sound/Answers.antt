@@ -11,7 +11,6 @@ use Rattle.lists.proofs.Exact.{passes, refused}
 use Rattle.model.specs.Records.{max_sources, max_cores}
 use Rattle.model.specs.WellFormed.{well_formed}
 use Rattle.well_formed.proofs.Test.{test_exact}
-use Rattle.in_place.proofs.Numbering.{sizes_read}
 use Rattle.layout.specs.Bytes.{state_size, state_from, word_at}
 use Rattle.routines.specs.declared.Routines.{Routines}
 use Rattle.routines.specs.Calls.{routines_in}
@@ -23,15 +22,15 @@ use Rattle.routine_test.proofs.sound.Goals as goal
 sizes :
     {b active holder : List ℕ} → (length b ≡ state_size) × (length active ≡ max_cores) × (length holder ≡ max_sources) →
     well_formed (state_from b) ≡ true → {n m : ℕ} → n ≡ word_at b 0 → m ≡ word_at b 2 → Sizes b active holder n m
+unfolding state_from
 sizes {b} p tested {n} {m} en em =
-    let (n_read, m_read) = sizes_read b in
     let well = (test_exact (state_from b)).0 tested in
     record {
       bytes = p.0;
       active_length = p.1;
       holder_length = p.2;
-      n_is = en ∙ n_read;
-      m_is = em ∙ m_read;
+      n_is = en;
+      m_is = em;
       n_le = omega (arith, well.consistent.n_le);
       m_le = omega (arith, well.consistent.m_le);
     }

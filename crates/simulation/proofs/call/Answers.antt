@@ -12,14 +12,14 @@ use Rattle.simulation.proofs.Answered.{answered}
 use Rattle.std.proofs.Common.{rules}
 use Rattle.simulation.proofs.call.Goals as goal
 
-pub begin-sound-requires : goal.begin-sound-requires
-begin-sound-requires c =
+pub begin-ranking-requires : goal.begin-ranking-requires
+begin-ranking-requires c =
     let s = c.args.s in
     let sized : Sized s.controller = record { sources = search (rules, unmapped); cores = search (rules, unmapped) } in
     let encodes : is_state c.put_state.new.b ≡ true = ap is_state c.put_state.ensures ∙ (state_encoded s.controller sized).0 in
     let active_long : length s.active ≡ max_cores = search (rules, unmapped) in
     let holder_long : length s.holder ≡ max_sources = search (rules, unmapped) in
-    (encodes, active_long, holder_long, refl, refl)
+    (encodes, active_long, holder_long)
 
 pub returns : goal.returns
 returns c =
@@ -27,4 +27,4 @@ returns c =
     let sized : Sized s.controller = record { sources = search (rules, unmapped); cores = search (rules, unmapped) } in
     let same : state_from c.put_state.new.b ≡ s.controller = ap state_from c.put_state.ensures ∙ state_read_back s.controller sized in
     let back : routines_in c.put_state.new.b s.active s.holder ≡ s = rw same refl in
-    answered c.put_state.new.b c.args.c back c.step-o.ensures c.state_from-after.ensures
+    answered c.put_state.new.b c.args.c back c.step-o.ensures c.numbers_of-number.ensures c.state_from-after.ensures
