@@ -12,7 +12,7 @@ ghost use Rattle.recording.specs.Records.{start};
 ghost use Rattle.recording_calls.specs.Remaining.{to_come, Inside, Continues, Takes};
 
 use layout::{COMMAND_SIZE, STATE_SIZE, UNREADABLE};
-use model::{CORES, Command, SOURCES};
+use model::Command;
 use recording::{Reader, Report, Strobe};
 use vcd_reader::{Advanced, advancing};
 use vcd_words::{readers, words};
@@ -171,14 +171,13 @@ fn replay_all(n: u16, m: u16, text: &[u8], state: &mut [u8], answers: &mut [u8])
     }
     let fresh = made.state;
     encoding::put_state(state, fresh);
-    let mut keys = [0; CORES];
-    let mut ranks = [0; SOURCES];
-    let sound = steps::begin(state, &mut keys, &mut ranks);
+    let mut ranking = steps::begin(state);
     let mut source = CommandReader::new(text);
     let mut count = 0;
     while let Some((_, c)) = source.next_command() {
-        let o = steps::step(state, &mut keys, &mut ranks, sound, c);
-        encoding::put_answer(answers, COMMAND_SIZE * count, o.number, o.id, o.cycles);
+        let o = steps::step(state, &mut ranking, c);
+        let (number, id, cycles) = in_place::numbers_of(o);
+        encoding::put_answer(answers, COMMAND_SIZE * count, number, id, cycles);
         count += 1;
     }
     report_of(source.reader, count as u16, text.len() as u64)

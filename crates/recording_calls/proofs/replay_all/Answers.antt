@@ -1,10 +1,11 @@
 -- `recording_calls::replay_all` meets its contract: a command that is taken runs on the state in the bytes, and its answer has room behind
 -- those before it. Assumes nothing.
-use mathlib.Core.Path.{◌≡◌, refl, ◌∙◌}
+use mathlib.Core.Path.{◌≡◌, ◌∙◌}
 use Rattle.std.proofs.Common.{arith}
 use Rattle.model.specs.Records.{reset}
 use Rattle.layout.specs.Bytes.{state_from}
 use Rattle.layout.proofs.Answers.{same_bytes_lem}
+use Rattle.in_place.proofs.Refused.{says_same}
 use Rattle.recording_calls.proofs.Reached.{counted_room}
 use Rattle.recording_calls.proofs.Answers.{replayed_none, replay_room, replayed_more, replay_end, replay_refused, made, encoded}
 use Rattle.recording_calls.proofs.replay_all.Goals as goal
@@ -15,10 +16,10 @@ returns-then-made-ne0 c =
     replay_refused a.n a.m c.make-made.result c.make-made.ensures a.text.now a.state.now a.answers.now c.report_with.result
     c.if-made-ne0.true c.report_with.ensures c.requires
 
-pub begin-sound-requires : goal.begin-sound-requires
-begin-sound-requires c =
+pub begin-ranking-requires : goal.begin-ranking-requires
+begin-ranking-requires c =
     let a = c.args in
-    ((encoded a.n a.m c.make-made.result c.make-made.ensures c.if-made-ne0.false c.put_state.ensures).0, refl, refl)
+    (encoded a.n a.m c.make-made.result c.make-made.ensures c.if-made-ne0.false c.put_state.ensures).0
 
 pub loop-c-init : goal.loop-c-init
 loop-c-init c =
@@ -29,7 +30,7 @@ loop-c-init c =
       of,
       rw at (omega arith),
       rw (fresh, at, reader) (replayed_none a.text.now a.answers.now (reset a.n a.m)),
-      c.begin-sound.ensures,
+      c.begin-ranking.ensures,
     )
 
 pub overflow_mul-count : goal.overflow_mul-count
@@ -54,7 +55,7 @@ loop-c-preserved c =
     let went = c.step-o.ensures in (
       c.in-Some.ensures.text ∙ of,
       rw (c.in-Some.ensures.text ∙ of) at c.in-Some.ensures.inside,
-      replayed_more c.loop-c.invariant.2 one went.state_is c.put_answer.ensures (same_bytes_lem went.says),
+      replayed_more c.loop-c.invariant.2 one went.state_is c.put_answer.ensures (same_bytes_lem (says_same _ c.numbers_of-number.ensures went.says)),
       went.going,
     )
 

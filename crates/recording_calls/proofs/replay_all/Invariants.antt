@@ -14,7 +14,7 @@ abbrev pub invariant-loop-c : goal.invariant-loop-c
 invariant-loop-c l =
     (l.source.text.now ≡ l.text) × Inside l.text l.source.at ×
     ReplayedTo l.text l.initial.answers (reset l.n l.m) l.answers (state_from l.state) l.count
-    (to_come l.text l.source.at l.source.reader) × Going l.sound l.state l.keys l.ranks
+    (to_come l.text l.source.at l.source.reader) × Going l.ranking l.state
 
 abbrev pub decreases-loop-c : goal.decreases-loop-c
 decreases-loop-c l = length (to_come l.source.text.now l.source.at l.source.reader).commands
