@@ -1,5 +1,5 @@
 // What a person reads: a command, its answer, and the state after it.
-use model::{Answer, Command, Controller, CoreAction, CoreId, SourceAction, SourceId};
+use model::{Answer, Command, Controller, CoreAction, CoreId, Refusal, SourceAction, SourceId};
 use std::fmt;
 
 // A command in words: "set source 4 to 9".
@@ -39,25 +39,16 @@ impl fmt::Display for Count {
     }
 }
 
-// Whether a command is accepted, by its answer's number: 0, or a number for no with its words.
+// Whether a command is accepted, by its answer's number: "accepted", or the number for no and what it says.
 #[derive(Drop)]
 pub struct Outcome(pub u8);
 
 impl fmt::Display for Outcome {
     fn fmt<W: fmt::Write>(&self, f: &mut fmt::Formatter<W>) -> fmt::Result {
-        let words = match self.0 {
-            0 => return write!(f, "accepted"),
-            1 => "the state isn't sound, or the lent record is bad",
-            2 => "a size is out of range, or the lent list is too long",
-            3 => "there is no such core",
-            4 => "there is no such source",
-            5 => "the priority is out of range",
-            6 => "the source is pending already",
-            7 => "the box is empty",
-            8 => "the request isn't claimed",
-            _ => "the source is pending, so its priority stays",
-        };
-        write!(f, "refused by {} ({words})", self.0)
+        match Refusal::try_from(self.0) {
+            Ok(refusal) => write!(f, "refused by {} ({refusal})", self.0),
+            Err(_) => write!(f, "accepted"),
+        }
     }
 }
 

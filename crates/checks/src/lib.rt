@@ -2,8 +2,6 @@
 // changed.
 #![tactic(auto)]
 
-pub mod numbers;
-
 ghost use Rattle.std.specs.Prelude.{◌≡◌, ltb};
 ghost use Rattle.lists.specs.Numbers.{between};
 ghost use Rattle.model.specs.Priorities.{top_priority};

@@ -4,15 +4,18 @@
 // Widths: ids, core numbers and priorities are u16, so that up to 1,023 sources with priorities up to 2,047 fit.
 #![tactic(auto)]
 
-ghost use Rattle.std.specs.Prelude.{◌≡◌};
-ghost use Rattle.model.specs.Commands.{number_for};
+ghost use Rattle.std.specs.Prelude.{◌≡◌, MatchResult, false};
+ghost use Rattle.lists.specs.Numbers.{between};
+ghost use Rattle.model.specs.Commands.{number_for, priority_in_use};
+
+use std::fmt;
 
 // The largest sizes: n is 1 to 128, m is 1 to 32.
 pub const SOURCES: usize = 128;
 
 pub const CORES: usize = 32;
 
-// A source's id, 1 to n; 0 means none. Never a core number.
+// A source's id, 1 to n. Never a core number. 0 means none, and not an Option, since C's records hold it (`repr(C)`).
 #[repr(C)]
 #[derive(Clone, Copy, Debug, PartialEq, Eq)]
 pub struct SourceId(pub u16);
@@ -36,7 +39,7 @@ pub struct Source {
     pub dropped: u16,
 }
 
-// Room for one delivered request. Document 01: "box".
+// Room for one delivered request. Document 01: "box". C's record (`repr(C)`), so a flag says whether it is filled.
 #[repr(C)]
 #[derive(Clone, Copy)]
 pub struct MessageBox {
@@ -115,7 +118,49 @@ impl From<Refusal> for u8 {
     }
 }
 
-// What an accepted command answers besides the state: the claimed id, 0 for every other command, and the cycles of settling.
+// A number that no refusal has.
+#[derive(Clone, Copy, Debug, PartialEq, Eq)]
+pub struct NoRefusal(pub u8);
+
+impl TryFrom<u8> for Refusal {
+    type Error = NoRefusal;
+
+    ghost try_from_gives = { λ number r. MatchResult r (λ refusal. number_for refusal ≡ number) (λ e. between 1 priority_in_use number ≡ false) };
+
+    fn try_from(number: u8) -> Result<Refusal, NoRefusal> {
+        match number {
+            1 => Ok(Refusal::Malformed),
+            2 => Ok(Refusal::BadSize),
+            3 => Ok(Refusal::BadCore),
+            4 => Ok(Refusal::BadSource),
+            5 => Ok(Refusal::BadPriority),
+            6 => Ok(Refusal::AlreadyPending),
+            7 => Ok(Refusal::NothingToClaim),
+            8 => Ok(Refusal::NotClaimed),
+            9 => Ok(Refusal::PriorityInUse),
+            _ => Err(NoRefusal(number)),
+        }
+    }
+}
+
+impl fmt::Display for Refusal {
+    fn fmt<W: fmt::Write>(&self, f: &mut fmt::Formatter<W>) -> fmt::Result {
+        f.write_str(match self {
+            Refusal::Malformed => "the state isn't sound, or the lent record is bad",
+            Refusal::BadSize => "a size is out of range, or the lent list is too long",
+            Refusal::BadCore => "there is no such core",
+            Refusal::BadSource => "there is no such source",
+            Refusal::BadPriority => "the priority is out of range",
+            Refusal::AlreadyPending => "the source is pending already",
+            Refusal::NothingToClaim => "the box is empty",
+            Refusal::NotClaimed => "the request isn't claimed",
+            Refusal::PriorityInUse => "the source is pending, so its priority stays",
+        })
+    }
+}
+
+// What an accepted command answers besides the state: the claimed id, 0 for every other command as in `Answer`, and the cycles of
+// settling.
 #[derive(Clone, Copy, Debug, PartialEq, Eq)]
 pub struct Accepted {
     pub id: SourceId,
@@ -134,8 +179,9 @@ impl Accepted {
     }
 }
 
-// What every call answers: the state handed back, document 01's number (0 is success),
-// the claimed id (0 for every other call), and the cycles of settling.
+// What every call answers: the state handed back, document 01's number (0 is success), the claimed id (0 for every other call), and
+// the cycles of settling. Numbers and not a Result, since the theorems over any behaviour (`Behaviour`) speak of a number, an id and a
+// state that every answer has.
 #[derive(Clone, Copy)]
 pub struct Answer {
     pub state: Controller,
@@ -144,8 +190,8 @@ pub struct Answer {
     pub cycles: u16,
 }
 
-// What the search over a lent list answers: document 01's number, and the position plus one of the first highest candidate, 0 for
-// none.
+// What the search over a lent list answers, as C's record (`repr(C)`): document 01's number, and the position plus one of the first
+// highest candidate, 0 for none.
 #[repr(C)]
 #[derive(Clone, Copy)]
 pub struct Found {
@@ -153,7 +199,7 @@ pub struct Found {
     pub position: u16,
 }
 
-// How many ranges of the comparator tree the search over a lent list looks into, with document 01's number.
+// How many ranges of the comparator tree the search over a lent list looks into, with document 01's number, as C's record.
 #[repr(C)]
 #[derive(Clone, Copy)]
 pub struct Ranged {
@@ -161,7 +207,8 @@ pub struct Ranged {
     pub ranges: u16,
 }
 
-// What the claim of one core record gives: document 01's number, the claimed id, and the record after it.
+// What the claim of one core record gives: document 01's number, the claimed id, and the record after it, which a refusal hands back
+// too. A number and not a Result, since `taken_from` says what it is.
 #[derive(Clone, Copy)]
 pub struct Taken {
     pub number: u8,
@@ -169,7 +216,7 @@ pub struct Taken {
     pub core: Core,
 }
 
-// What the claim of a lent record answers.
+// What the claim of a lent record answers, as C's record.
 #[repr(C)]
 #[derive(Clone, Copy)]
 pub struct Claimed {

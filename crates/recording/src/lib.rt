@@ -38,14 +38,15 @@ pub enum Signal {
     Prio,
 }
 
-// What a variable holds: a number, or not known, by an x or z; then the number is 0.
+// What a variable holds: a number, or not known, by an x or z; then the number is 0. A flag and not an Option, since what is carried
+// between chunks has both, and `value_from` reads any number beside either flag.
 #[derive(Clone, Copy)]
 pub struct Value {
     pub known: bool,
     pub number: u16,
 }
 
-// A declared variable. Its code as the number that its one to four bytes spell; 0: not declared.
+// A declared variable. Its code as the number that its one to four bytes spell; 0: not declared, as it is carried (`variable_bytes`).
 #[derive(Clone, Copy)]
 pub struct Variable {
     pub code: u32,
@@ -77,7 +78,8 @@ pub struct Pending {
     pub vector: Vector,
 }
 
-// Whether a stamp is open, its time, and whether stb was 1 at the end of the stamp before.
+// Whether a stamp is open, its time, and whether stb was 1 at the end of the stamp before. The flag stands beside the time, since
+// `stamp_from` reads any time beside either flag.
 #[derive(Clone, Copy)]
 pub struct Stamp {
     pub opened: bool,
@@ -85,7 +87,8 @@ pub struct Stamp {
     pub up: bool,
 }
 
-// The number and the offset of the first fault; number 0: none so far.
+// The number and the offset of the first fault; number 0: none so far. A number and not an Option of an enum, since `fault_from` reads
+// any number, and hosts are told it (`Report`).
 #[derive(Clone, Copy)]
 pub struct Fault {
     pub number: u8,
@@ -119,8 +122,8 @@ pub struct Read {
     pub strobe: Option<Strobe>,
 }
 
-// What a call for hosts answers: the number of the first fault, or 2 or 255, 0 for none; how many commands it wrote or answered; the
-// offset of the fault, and without one the text's length.
+// What a call for hosts answers, as C's record: the number of the first fault, or 2 or 255, 0 for none; how many commands it wrote or
+// answered; the offset of the fault, and without one the text's length.
 #[repr(C)]
 #[derive(Clone, Copy)]
 pub struct Report {

@@ -4,7 +4,8 @@
 
 use model::{CORES, Controller, CoreId, SOURCES, SourceAction, SourceId};
 
-// The controller, and what the entry code keeps beside it.
+// The controller, and what the entry code keeps beside it: words and not Options, since hosts keep them in memory as they are, and
+// `routines_in` reads any words.
 #[derive(Clone, Copy)]
 pub struct Routines {
     pub controller: Controller,
@@ -49,7 +50,7 @@ pub enum RoutineCall {
 }
 
 // What every call answers: the state handed back, the number (0 is success), the id that an entry claimed (0 for every other call),
-// and the cycles of its commands, added.
+// and the cycles of its commands, added. Numbers, as in `Answer`.
 #[derive(Clone, Copy)]
 pub struct RoutineAnswer {
     pub state: Routines,
