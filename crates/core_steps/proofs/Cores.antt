@@ -158,9 +158,6 @@ module _ {b : List ℕ} {g : Ranking} (p : Ready b g) where
                 consistent = subst Consistent (sym same) (effect_consistent s command p.sound free_to_set);
               }
 
-          pub sizes_stay : ((state_from b₁).n ≡ s.n) × ((state_from b₁).m ≡ s.m)
-          sizes_stay = (ap (λ (e : Controller). e.n) back, ap (λ (e : Controller). e.m) back)
-
           pub set_leaves :
               {o : Outcome} {y : ℕ} {b' : List ℕ} {g' : Ranking} → Settled (soiled_all (state_from b₁)) y b' g' → Says o 0 0 y →
               Executed b (OnCore core a) o b' g'

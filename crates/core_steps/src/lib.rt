@@ -11,10 +11,11 @@ use in_place::{Outcome, Ranking};
 use model::{Accepted, Command, CoreAction, CoreId, Refusal};
 
 // Step 1 of settling, to its end: one filled box a cycle, lowest core first. All are dirty by now, so the mark itself is never stored.
-fn retract_all(state: &mut [u8], ranking: &mut Ranking, m: usize) -> u16
-    requires { Soiled state.old ranking.old × (m ≡ (state_from state.old).m) }
+fn retract_all(state: &mut [u8], ranking: &mut Ranking) -> u16
+    requires { Soiled state.old ranking.old }
     ensures { Emptied state.old result state.new ranking.new }
 {
+    let m = in_place::cores_in(state) as usize;
     let mut cycles = 0;
     for k in 0..m {
         let c = decoding::core_at(state, k);
@@ -27,10 +28,12 @@ fn retract_all(state: &mut [u8], ranking: &mut Ranking, m: usize) -> u16
 }
 
 // Step 2, to its end: one delivery a cycle, the highest candidate to the least core, while it is strictly above.
-fn deliver_all(state: &mut [u8], ranking: &mut Ranking, n: usize, m: usize) -> u16
-    requires { Undelivered state.old ranking.old × (n ≡ (state_from state.old).n) × (m ≡ (state_from state.old).m) }
+fn deliver_all(state: &mut [u8], ranking: &mut Ranking) -> u16
+    requires { Undelivered state.old ranking.old }
     ensures { Delivered state.old result state.new ranking.new }
 {
+    let n = in_place::sources_in(state) as usize;
+    let m = in_place::cores_in(state) as usize;
     for t in 0..m {
         let top = places::greatest(&ranking.ranks[..n]);
         let key = places::lowest(&ranking.keys[..m]);
@@ -47,12 +50,12 @@ fn deliver_all(state: &mut [u8], ranking: &mut Ranking, n: usize, m: usize) -> u
 }
 
 // Settling after set core priority, which makes every filled box dirty. The cycles are answered.
-fn settle(state: &mut [u8], ranking: &mut Ranking, n: usize, m: usize) -> u16
-    requires { Soiled state.old ranking.old × (n ≡ (state_from state.old).n) × (m ≡ (state_from state.old).m) }
+fn settle(state: &mut [u8], ranking: &mut Ranking) -> u16
+    requires { Soiled state.old ranking.old }
     ensures { Settled (soiled_all (state_from state.old)) result state.new ranking.new }
 {
-    let retracted = retract_all(state, ranking, m);
-    let delivered = deliver_all(state, ranking, n, m);
+    let retracted = retract_all(state, ranking);
+    let delivered = deliver_all(state, ranking);
     retracted + delivered
 }
 
@@ -72,7 +75,7 @@ pub fn on_core(state: &mut [u8], ranking: &mut Ranking, core: CoreId, a: CoreAct
     match a {
         CoreAction::SetCorePriority(p) => {
             in_place::put_core(state, ranking, k, records::core_with(p, c.message));
-            let cycles = settle(state, ranking, n as usize, m as usize);
+            let cycles = settle(state, ranking);
             Ok(Accepted::after(cycles))
         }
         CoreAction::Claim => {

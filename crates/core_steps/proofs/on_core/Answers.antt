@@ -1,6 +1,6 @@
 -- `core_steps::on_core` meets its contract: the checks in their order, then the record stored, and settled. Assumes nothing.
-use Rattle.std.proofs.Common.{◌≡◌, refl, rules, sym, ◌∙◌, Err}
-use Rattle.core_steps.proofs.Cores.{bad_core, judged, refused_later, soiled_by, sizes_stay, set_leaves, claim_leaves}
+use Rattle.std.proofs.Common.{◌≡◌, refl, rules, Err}
+use Rattle.core_steps.proofs.Cores.{bad_core, judged, refused_later, soiled_by, set_leaves, claim_leaves}
 use Rattle.core_steps.proofs.on_core.Goals as goal
 
 pub returns-then-not-names_core : goal.returns-then-not-names_core
@@ -19,9 +19,7 @@ pub settle-cycles-requires : goal.settle-cycles-requires
 settle-cycles-requires c =
     let found = judged c.requires c.args.core c.args.a c.cores_in-m.ensures c.names_core.ensures c.if-not-names_core.false
     c.sources_in-n.ensures c.core_at-c.ensures c.in_ok-core_refusal.ensures in
-    let same = sizes_stay c.requires found refl _ c.put_core.ensures c.in-SetCorePriority.is c.core_with.ensures in
-    let soiled = soiled_by c.requires found refl _ c.put_core.ensures c.in-SetCorePriority.is c.core_with.ensures in
-    (soiled, c.sources_in-n.ensures ∙ sym same.0, c.cores_in-m.ensures ∙ sym same.1)
+    soiled_by c.requires found refl _ c.put_core.ensures c.in-SetCorePriority.is c.core_with.ensures
 
 pub returns-in-SetCorePriority : goal.returns-in-SetCorePriority
 returns-in-SetCorePriority c =

@@ -6,28 +6,28 @@ use Rattle.core_steps.proofs.retract_all.Goals as goal
 use Rattle.core_steps.proofs.retract_all.Goals.{else-c, then-c}
 
 pub loop-k-init : goal.loop-k-init
-loop-k-init c = emptying_none c.requires.0
+loop-k-init c = emptying_none c.requires
 
 pub core_at-c-requires : goal.core_at-c-requires
 core_at-c-requires c =
-    let e = c.loop-k.invariant in (e.held.size, core_inside e c.requires.1 c.loop-k-test.true)
+    let e = c.loop-k.invariant in (e.held.size, core_inside e c.cores_in-m.ensures c.loop-k-test.true)
 
 pub retract-requires : goal.retract-requires
 retract-requires c =
     let e = c.loop-k.invariant in
-    (e.held.size, core_inside e c.requires.1 c.loop-k-test.true, box_names e c.requires.1 c.loop-k-test.true c.core_at-c.ensures)
+    (e.held.size, core_inside e c.cores_in-m.ensures c.loop-k-test.true, box_names e c.cores_in-m.ensures c.loop-k-test.true c.core_at-c.ensures)
 
 pub loop-k-preserved : goal.loop-k-preserved
 loop-k-preserved c =
     let e = c.loop-k.invariant in
     elim c.if-c.branch [
       | then-c w ↦
-          emptying_by (emptying_filled e c.requires.1 c.loop-k-test.true c.core_at-c.ensures w.if-c.true w.retract.ensures)
+          emptying_by (emptying_filled e c.cores_in-m.ensures c.loop-k-test.true c.core_at-c.ensures w.if-c.true w.retract.ensures)
           w.state-is w.ranking-is w.cycles-is
       | else-c w ↦
-          emptying_by (emptying_empty e c.requires.1 c.loop-k-test.true c.core_at-c.ensures w.if-c.false)
+          emptying_by (emptying_empty e c.cores_in-m.ensures c.loop-k-test.true c.core_at-c.ensures w.if-c.false)
           w.state-is w.ranking-is w.cycles-is
     ]
 
 pub returns : goal.returns
-returns c = emptying_all c.loop-k.invariant (omega (arith, c.loop-k-test.false, c.requires.1))
+returns c = emptying_all c.loop-k.invariant (omega (arith, c.loop-k-test.false, c.cores_in-m.ensures))
