@@ -14,8 +14,8 @@ use Rattle.in_place.proofs.Refused.{says_same}
 use Rattle.steps.specs.Going.{Went}
 
 pub answered :
-    {s state : Controller} (b : List ℕ) {b' : List ℕ} {r' : Option Ranking} {o : Outcome} {number id cycles : ℕ} (c : Command) →
-    state_from b ≡ s → Went (execute (state_from b) c) o b' r' → Says o number id cycles → state ≡ state_from b' →
+    {s state : Controller} (b : List ℕ) {b' : List ℕ} {r r' : Option Ranking} {o : Outcome} {number id cycles : ℕ} (c : Command) →
+    state_from b ≡ s → Went (execute (state_from b) c) r o b' r' → Says o number id cycles → state ≡ state_from b' →
     answer state number id cycles ≡ execute s c
 answered {s} {state} b c back went told read =
     let whole : state ≡ (execute (state_from b) c).state = read ∙ went.state_is in

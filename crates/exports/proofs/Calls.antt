@@ -68,8 +68,8 @@ module _ (number at p : ℕ) (b : List ℕ) where
     bad_number f = done unreadable b (execute_call number at p b) (executed ∙ rw f)
 
     pub execute_went :
-        {r n i y : ℕ} {c : Command} {o : Outcome} {b' : List ℕ} {g' : Option Ranking} → d ≡ Some c →
-        Went (execute (state_from b) c) o b' g' → Says o n i y → r ≡ packed_as n i y →
+        {r n i y : ℕ} {c : Command} {o : Outcome} {b' : List ℕ} {g g' : Option Ranking} → d ≡ Some c →
+        Went (execute (state_from b) c) g o b' g' → Says o n i y → r ≡ packed_as n i y →
         Does r b' (execute_call number at p b)
     execute_went {r} {c = c} {o} {b'} f w told er =
         let (number_is, id_is, cycles_are) = says_same o told w.says in

@@ -108,7 +108,7 @@ module _ {s : Controller} {b : List ℕ} {g : Ranking} (h : Held s b g) where
 module _ {s : Controller} {b b₁ : List ℕ} {g g₁ : Ranking} {k : ℕ} {c : Core} (h : Held s b g) (k_lt : k < max_cores)
     (is : c ≡ core_at s k) (back : PutsBack c.message b g b₁ g₁) where
   waits : Held (with_sources s (put_back (core_at s k).message s.sources)) b₁ g₁
-  waits = rw is at (back s h)
+  waits = rw is at (back.1 s h)
 
   pub held_retracted :
       {d : Core} {b₂ : List ℕ} {g₂ : Ranking} → d ≡ core_with c.configured empty_box →

@@ -53,7 +53,7 @@ NamesSource box = box.filled ≡ true → (1 ≤ box.source.0) × (box.source.0 
 
 abbrev pub PutsBack : MessageBox → List ℕ → Ranking → List ℕ → Ranking → Type 0
 PutsBack box b g b' g' =
-    (s : Controller) → Held s b g → Held (with_sources s (put_back box s.sources)) b' g'
+    (g'.keys ≡ g.keys) × ((s : Controller) → Held s b g → Held (with_sources s (put_back box s.sources)) b' g')
 
 abbrev pub Retracts : ℕ → Core → List ℕ → Ranking → List ℕ → Ranking → Type 0
 Retracts k c b g b' g' = (s : Controller) → Held s b g → c ≡ core_at s k → Held (retract s k) b' g'

@@ -45,10 +45,10 @@ module _ (b : List ℕ) (c : Command) where
   abbrev s : Controller
   s = state_from b
 
-  pub go_refused : {r : Option Ranking} → Going r b → r ≡ None → Went (execute s c) (Err Malformed) b r
+  pub go_refused : {r : Option Ranking} → Going r b → r ≡ None → Went (execute s c) r (Err Malformed) b r
   go_refused {r} going is =
-      subst (λ (a : Answer). Went a (Err Malformed) b r) (at_state s c (sym going.tested ∙ ap is_some is))
-      (record { says = (refl, refl, refl); state_is = refl; going = going })
+      subst (λ (a : Answer). Went a r (Err Malformed) b r) (at_state s c (sym going.tested ∙ ap is_some is))
+      (record { says = (refl, refl, refl); state_is = refl; going = going; kept = refl })
 
   module _ {r : Option Ranking} {g : Ranking} (going : Going r b) (is : r ≡ Some g) where
     pub ready : Ready b g
@@ -56,7 +56,7 @@ module _ (b : List ℕ) (c : Command) where
 
     -- d is the command by its parts
     pub gone_on :
-        {d : Command} {o : Outcome} {b' : List ℕ} {g' : Ranking} → c ≡ d → Executed b d o b' g' → Went (execute s c) o b' (Some g')
+        {d : Command} {o : Outcome} {b' : List ℕ} {g' : Ranking} → c ≡ d → Executed b d o b' g' → Went (execute s c) r o b' (Some g')
     gone_on {d} {o} {b'} {g'} command did =
         let done : Executed b c o b' g' = subst (λ (e : Command). Executed b e o b' g') (sym command) did in
         let kept : WellFormed (execute s c).state = well_formed-kept s c ready.sound in
@@ -64,6 +64,7 @@ module _ (b : List ℕ) (c : Command) where
         record {
           says = done.says;
           state_is = back;
+          kept = rw is;
           going =
               record {
                 size = done.held.size;

@@ -26,7 +26,7 @@ pub fn begin(state: &[u8]) -> Option<Ranking>
 // One command, on a state of which `begin` has answered.
 pub fn step(state: &mut [u8], ranking: &mut Option<Ranking>, c: Command) -> Outcome
     requires { Going ranking.old state.old }
-    ensures { Went (execute (state_from state.old) c) result
+    ensures { Went (execute (state_from state.old) c) ranking.old result
         state.new ranking.new }
 {
     let Some(ranking) = ranking else {
