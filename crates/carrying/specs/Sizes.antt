@@ -1,4 +1,5 @@
--- How many bytes each part of a reader takes among those of recording/specs/Carrying.antt. Definitions only. Assumes nothing.
+-- How many bytes each part of a reader takes among those of recording/specs/Carrying.antt. Helpers of contracts; nothing here needs
+-- to be believed.
 use Rattle.std.specs.Prelude.{ℕ, ◌*◌}
 use Rattle.recording.specs.Carrying.{variable_size}
 

@@ -1,5 +1,7 @@
 // What a person reads: a command, its answer, and the state after it.
-use model::{Answer, Command, Controller, CoreAction, CoreId, Refusal, SourceAction, SourceId};
+use model::{
+    Answer, Command, Controller, CoreAction, CoreId, NoRefusal, Refusal, SourceAction, SourceId,
+};
 use std::fmt;
 
 // A command in words: "set source 4 to 9".
@@ -39,7 +41,7 @@ impl fmt::Display for Count {
     }
 }
 
-// Whether a command is accepted, by its answer's number: "accepted", or the number for no and what it says.
+// Whether a command is accepted, by its answer's number: "accepted", or the number for no and its reason.
 #[derive(Drop)]
 pub struct Outcome(pub u8);
 
@@ -47,7 +49,8 @@ impl fmt::Display for Outcome {
     fn fmt<W: fmt::Write>(&self, f: &mut fmt::Formatter<W>) -> fmt::Result {
         match Refusal::try_from(self.0) {
             Ok(refusal) => write!(f, "refused by {} ({refusal})", self.0),
-            Err(_) => write!(f, "accepted"),
+            Err(NoRefusal(0)) => write!(f, "accepted"),
+            Err(NoRefusal(number)) => write!(f, "refused by {number}"),
         }
     }
 }
