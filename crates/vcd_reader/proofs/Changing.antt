@@ -7,14 +7,14 @@
 --   takes_command                a time that gives a command
 use Prim.Native.Nat.{ℕ, ◌+◌, ◌-◌, ◌<◌, ◌≤◌, min}
 use mathlib.Core.Path.{◌≡◌, refl, sym, ap, subst, ◌∙◌}
-use Rattle.std.specs.Prelude.{Some}
+use Rattle.std.specs.Prelude.{Option, Some, None}
 use mathlib.Core.List.{List, [], ◌∷◌, map}
 use mathlib.Core.Bool.{Bool, true, false, not, ◌&&◌, ◌||◌, cond, and-false}
 use lib.ListN.{length, get_or}
 use lib.Dec.{ltb, leb, eqb}
 use native.Mathlib.Omega.{arith}
 use borrow.Author.Tests.{lt-ltb, lt-leb, eq-eqb, ne_eqb, eqb-true}
-use Rattle.lists.proofs.Bools.{and_in, or_off, clash, Flag, on, off, flag}
+use Rattle.lists.proofs.Bools.{and_in, or_off, Flag, on, off, flag}
 use Rattle.recording.specs.declared.Place.{Place}
 use Rattle.recording.specs.declared.Place.TheVariants.{Body, BodyCode, BlockCode}
 use Rattle.recording.specs.declared.Signal.{Signal}
@@ -31,8 +31,8 @@ use Rattle.recording.specs.Declarations.{has_code}
 use Rattle.recording.specs.Stamps.{is_readable, strobe_of, end_stamp, end_open_stamp}
 use Rattle.recording.specs.Reading.{read_word, read_at, read_body, read_block, read_change, is_vector, vector_signal, read_vector_code, is_time}
 use Rattle.recording.specs.Reading.{time_of, open_stamp, and_then, read_time}
-use Rattle.vcd_words.specs.declared.Number.{Number}
-use Rattle.vcd_words.specs.Partial.{number_with, more_bits}
+use Rattle.vcd_words.specs.declared.Number.TheVariants.{Binary}
+use Rattle.vcd_words.specs.Partial.{in_16, more_bits, kept_value, vector_with}
 use Rattle.vcd_words.proofs.Bytes.{above_separators, run_more}
 use Rattle.vcd_words.proofs.Sums.{bits_of, bits_sum}
 use Rattle.vcd_reader.specs.declared.Bits.{Bits}
@@ -43,7 +43,7 @@ use Rattle.vcd_reader.specs.declared.Turned.{Turned}
 use Rattle.vcd_reader.specs.Advances.{Follows}
 use Rattle.vcd_reader.specs.Runs.{word_from, BitsThere, CodeThere, TimeThere, Skips}
 use Rattle.vcd_reader.specs.Skipping.{change_place, in_block, Turns}
-use Rattle.vcd_reader.specs.Changes.{bits_vector, with_variables, CodedVector, Places}
+use Rattle.vcd_reader.specs.Changes.{with_variables, CodedVector, Places}
 use Rattle.vcd_reader.specs.Changes.{QuietTime, MayChange, QuietWord, with_level, after_command, Takes}
 use Rattle.vcd_reader.proofs.Follows.{follows_then, follows_passes, follows_skips, follows_word, word_within}
 use Rattle.vcd_reader.proofs.Reaching.{word_inside, word_starts, other_byte, bit_range}
@@ -106,26 +106,30 @@ places_some vs code v s x fits h named ef ex f =
 
 -- ---- a vector with its code
 
--- bits, and their number where they are all known
-module _ (u : List ℕ) (known : Bool) (n : ℕ) (e : more_bits (number_with true true false 0) u ≡ number_with true known false n) where
-  sum : bits_of (number_with true true false 0) 0 u ≡ number_with true known false n
-  sum = sym (bits_sum (number_with true true false 0) 0 u refl) ∙ e
+-- bits, and their number if they are all known
+module _ (u : List ℕ) (n : Option ℕ) (e : more_bits (Some 0) u ≡ Some (Binary n)) where
+  sum : bits_of true 0 u ≡ Some (Binary n)
+  sum = sym (bits_sum u) ∙ e
 
   all_bits : all is_bit u ≡ true
   all_bits = go (flag (all is_bit u)) sum
     where
-      go : Flag (all is_bit u) → bits_of (number_with true true false 0) 0 u ≡ number_with true known false n → all is_bit u ≡ true
+      go : Flag (all is_bit u) → bits_of true 0 u ≡ Some (Binary n) → all is_bit u ≡ true
       go (on f) g = f
-      go (off f) g = let no : false ≡ true = ap (λ (x : Number). x.whole) (rw f at g) in clash no refl
+      go (off f) g = let no : None ≡ Some (Binary n) = rw f at g in absurd cc
 
-  full :
-      number_with true (all is_definite (map bit_of u)) false (min 65535 (numeral 2 0 (map bit_number (map bit_of u)))) ≡
-      number_with true known false n
-  full = rw all_bits at sum
+  number : in_16 (all is_definite (map bit_of u)) (numeral 2 0 (map bit_number (map bit_of u))) ≡ n
+  number = let full = rw all_bits at sum in cc
 
-  vector_given : bits_vector (min 255 (length u)) known n ≡ vector_of u
+  vector_given : vector_with (min 255 (length u)) (kept_value n) ≡ vector_of u
   unfolding vector_of value_of
-  vector_given = rw (ap (λ (x : Number). x.known) full, ap (λ (x : Number). x.value) full)
+  vector_given = rw (← number) (go (flag (all is_definite (map bit_of u))))
+    where
+      go : Flag (all is_definite (map bit_of u)) →
+          vector_with (min 255 (length u))
+          (kept_value (in_16 (all is_definite (map bit_of u)) (numeral 2 0 (map bit_number (map bit_of u))))) ≡ vector_of u
+      go (on f) = rw f
+      go (off f) = rw f
 
 -- a word that is a code has a byte
 code_some : (w : List ℕ) → 0 < code_of w → w ≡ [] → ⊥
@@ -140,7 +144,7 @@ module _ (t : List ℕ) (from : ℕ) where
   pub coded_vector :
       (b : Bits) (i : ℕ) (c : Coded) (v : Vector) (end : ℕ) →
       BitsThere t from b → b.end - from ≤ 255 → Skips t b.end i → CodeThere t i c →
-      v ≡ bits_vector (b.end - from) b.known b.number → Skips t c.end end →
+      v ≡ vector_with (b.end - from) (kept_value b.number) → Skips t c.end end →
       CodedVector t from (record { end = end; code = c.code; vector = v })
   coded_vector b i c v end o short s k ev s' =
       let u = word_from t from in
@@ -152,8 +156,8 @@ module _ (t : List ℕ) (from : ℕ) where
       let starts = word_starts t i some in
       record {
         at = i;
-        bits = some_bits u (omega (arith, o.some)) (all_bits u b.known b.number o.number);
-        vector = rw (ev, count) (vector_given u b.known b.number o.number);
+        bits = some_bits u (omega (arith, o.some)) (all_bits u b.number o.number);
+        vector = rw (ev, count) (vector_given u b.number o.number);
         passes = rw (← ends) s.passes;
         later = omega (arith, s.moves);
         inside = inside;

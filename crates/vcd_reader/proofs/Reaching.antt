@@ -7,22 +7,22 @@
 --   BitsTo, bits_more, bits_there               bits up to i, and their number
 --   CodeTo, code_none, code_more, code_there    the bytes of a code up to i, and what they spell
 --   TimeTo, time_there                          decimal digits up to i, and their number
-use Prim.Native.Nat.{ℕ, ◌+◌, ◌*◌, ◌-◌, ◌<◌, ◌≤◌, min}
+use Prim.Native.Nat.{ℕ, ◌+◌, ◌*◌, ◌-◌, ◌<◌, ◌≤◌}
 use mathlib.Core.Path.{◌≡◌, refl, sym, ap, subst, ◌∙◌}
 use mathlib.Core.List.{List, [], ◌∷◌, map}
-use mathlib.Core.Bool.{Bool, true, false, not, ◌&&◌, cond}
+use mathlib.Core.Bool.{Bool, true, false, not, cond}
 use lib.ListN.{length, get_or}
 use lib.Dec.{ltb, leb, eqb}
 use native.Mathlib.Omega.{arith}
 use borrow.Author.Tests.{ltb-true, ltb-false, leb-true, le-leb, ne_eqb}
-use Rattle.std.specs.Prelude.{Option, IfSome}
+use Rattle.std.specs.Prelude.{Option, Some, IfSome}
 use Rattle.std.specs.Bool.{then_some}
 use Rattle.lists.specs.Numbers.{between}
 use Rattle.lists.proofs.Bools.{and_in, and_l, and_r, clash, refuted, Flag, on, off, flag}
 use Rattle.recording.specs.Words.{separator, all, is_empty}
-use Rattle.recording.specs.Values.{numeral, is_bit, bit_of, is_definite, bit_number, is_digit, digit_of, is_decimal, decimal, code_of}
+use Rattle.recording.specs.Values.{numeral, is_bit, is_digit, digit_of, is_decimal, decimal, code_of}
 use Rattle.recording.specs.Reading.{max_time}
-use Rattle.vcd_words.specs.Partial.{number_with, with_bit, more_bits}
+use Rattle.vcd_words.specs.Partial.{with_known_bit, more_bits}
 use Rattle.vcd_words.proofs.Bytes.{above_separators, run_more, run_separator, run_end}
 use Rattle.vcd_reader.specs.Runs.{word_from, BitsThere, CodeThere, TimeThere}
 
@@ -113,33 +113,28 @@ bit_range b e = go (flag (ltb 32 b))
         clash e none
 
 module _ (t : List ℕ) (from : ℕ) where
-  pub record BitsTo (known : Bool) (number i : ℕ) : Type 0 where
+  pub record BitsTo (number : Option ℕ) (i : ℕ) : Type 0 where
     pub inside : Within t from i
-    pub held : number ≤ 65535
-    pub bits : more_bits (number_with true known false number) (word_from t i) ≡ more_bits (number_with true true false 0) (word_from t from)
+    pub bits : more_bits number (word_from t i) ≡ more_bits (Some 0) (word_from t from)
 
   pub bits_more :
-      (known : Bool) (number i : ℕ) (known' : Bool) (number' : ℕ) → BitsTo known number i → i < length t →
-      is_bit (get_or t i 0) ≡ true → known' ≡ (known && is_definite (bit_of (get_or t i 0))) →
-      number' ≡ min 65535 (2 * number + bit_number (bit_of (get_or t i 0))) → BitsTo known' number' (i + 1)
-  unfolding with_bit
-  bits_more known number i known' number' o h k ek e =
+      (number : Option ℕ) (i : ℕ) → BitsTo number i → i < length t → is_bit (get_or t i 0) ≡ true →
+      BitsTo (with_known_bit number (get_or t i 0)) (i + 1)
+  bits_more number i o h k =
       let above = bit_range (get_or t i 0) k in
       record {
         inside = within_more t from i o.inside h (above_starts t i h above);
-        held = omega (arith, e);
-        bits =
-            sym (ap (more_bits (number_with true known false number)) (word_more t i h above) ∙ rw (k, ek, e)) ∙ o.bits;
+        bits = sym (ap (more_bits number) (word_more t i h above) ∙ rw k) ∙ o.bits;
       }
 
   pub bits_there :
-      (known : Bool) (number i end : ℕ) → BitsTo known number i → is_empty (word_from t from) ≡ false → word_from t i ≡ [] → end ≡ i →
-      BitsThere t from (record { known = known; end = end; number = number })
-  bits_there known number i end o some e f =
+      (number : Option ℕ) (i end : ℕ) → BitsTo number i → is_empty (word_from t from) ≡ false → word_from t i ≡ [] → end ≡ i →
+      BitsThere t from (record { end = end; number = number })
+  bits_there number i end o some e f =
       record {
         some = omega (arith, walked t from i o.inside some e);
         end = f ∙ within_all t from i o.inside e;
-        number = sym o.bits ∙ ap (more_bits (number_with true known false number)) e;
+        number = sym o.bits ∙ ap (more_bits number) e;
       }
 
 -- ---- codes

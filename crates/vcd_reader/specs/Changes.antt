@@ -2,14 +2,14 @@
 -- Assumes nothing.
 --   Places            the variable of a code takes a vector
 --   Takes r time      the word # with this time gives a command
-use Rattle.std.specs.Prelude.{ℕ, suc, ◌+◌, ◌<◌, ◌≤◌, ◌≡◌, List, ◌∷◌, Bool, true, false, not, ◌&&◌, cond, length, get_or, eqb, Some}
+use Rattle.std.specs.Prelude.{ℕ, suc, ◌+◌, ◌<◌, ◌≤◌, ◌≡◌, List, ◌∷◌, true, false, not, ◌&&◌, length, get_or, eqb, Some}
 use Rattle.recording.specs.declared.Place.{Place}
 use Rattle.recording.specs.declared.Signal.TheVariants.{Stb}
 use Rattle.recording.specs.declared.Vector.{Vector}
 use Rattle.recording.specs.declared.Variables.{Variables}
 use Rattle.recording.specs.declared.Reader.{Reader}
 use Rattle.recording.specs.Words.{separator, word_with}
-use Rattle.recording.specs.Values.{value, unknown, vector_with, vector_of, code_of}
+use Rattle.recording.specs.Values.{vector_of, code_of}
 use Rattle.recording.specs.Records.{variable_with, with_variable_of, reader_with, at, with_up, with_taken, with_time}
 use Rattle.recording.specs.Records.{read_with}
 use Rattle.recording.specs.Stamps.{strobe_of}
@@ -22,9 +22,6 @@ use Rattle.vcd_reader.specs.Runs.{word_from, TimeThere}
 use Rattle.vcd_reader.specs.Skipping.{change_place, in_block}
 
 -- ---- vectors
-
-abbrev pub bits_vector : ℕ → Bool → ℕ → Vector
-bits_vector length known number = vector_with length (cond known (value true number) unknown)
 
 -- After b or B, from an offset on: a vector, and at a later offset its code.
 pub record CodedVector (t : List ℕ) (from : ℕ) (g : Given) : Type 0 where

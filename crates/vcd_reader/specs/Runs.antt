@@ -1,11 +1,12 @@
 -- What a word is that begins at an offset. A helper of contracts; nothing here needs to be believed. Assumes nothing.
 --   word_from t i      the bytes of the word from an offset on
 --   Skips t i j       from i up to j there are only separators, and at j there is none
-use Rattle.std.specs.Prelude.{ℕ, ◌+◌, ◌<◌, ◌≤◌, ◌≡◌, List, true, false, length, get_or, drop, leb}
+use Rattle.std.specs.Prelude.{ℕ, ◌+◌, ◌<◌, ◌≤◌, ◌≡◌, List, true, false, length, get_or, drop, leb, Some}
 use Rattle.recording.specs.Words.{separator}
 use Rattle.recording.specs.Values.{code_of, is_decimal, decimal}
 use Rattle.recording.specs.Reading.{max_time}
-use Rattle.vcd_words.specs.Partial.{run, number_with, more_bits}
+use Rattle.vcd_words.specs.Partial.{run, more_bits}
+use Rattle.vcd_words.specs.declared.Number.TheVariants.{Binary}
 use Rattle.vcd_reader.specs.declared.Bits.{Bits}
 use Rattle.vcd_reader.specs.declared.Coded.{Coded}
 use Rattle.vcd_reader.specs.declared.Timed.{Timed}
@@ -22,11 +23,11 @@ pub record Skips (t : List ℕ) (from end : ℕ) : Type 0 where
 
 -- ---- bits
 
--- Every byte of the word is a bit, and this is their number, where they are all known.
+-- Every byte of the word is a bit, and this is their number, if they are all known.
 pub record BitsThere (t : List ℕ) (from : ℕ) (b : Bits) : Type 0 where
   pub some : from < b.end
   pub end : b.end ≡ from + length (word_from t from)
-  pub number : more_bits (number_with true true false 0) (word_from t from) ≡ number_with true b.known false b.number
+  pub number : more_bits (Some 0) (word_from t from) ≡ Some (Binary b.number)
 
 -- ---- codes
 

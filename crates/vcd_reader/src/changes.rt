@@ -2,23 +2,13 @@
 ghost use Rattle.std.specs.Prelude.{◌≡◌, true, false, cond, leb, None, IfSome};
 ghost use Rattle.recording.specs.Records.{variable_with};
 ghost use Rattle.vcd_reader.specs.Skipping.{change_place, in_block};
-ghost use Rattle.vcd_reader.specs.Changes.{bits_vector, CodedVector, Places, QuietTime, MayChange, Quiet, QuietWord};
+ghost use Rattle.vcd_reader.specs.Changes.{CodedVector, Places, QuietTime, MayChange, Quiet, QuietWord};
 
 use crate::{Given, Passed, Timed, runs, skipping};
-use recording::{Place, Reader, Stamp, Value, Variable, Variables, Vector};
-use vcd_words::{scanning, words};
+use recording::{Place, Reader, Stamp, Variable, Variables, Vector};
+use vcd_words::{readers, scanning, words};
 
 // ---- vectors
-
-fn bits_vector(length: u8, known: bool, number: u16) -> Vector
-    ensures { result ≡ bits_vector length known number }
-{
-    let number = if known { number } else { 0 };
-    Vector {
-        length,
-        value: Value { known, number },
-    }
-}
 
 // After b or B, from an offset on: bits, and a code.
 fn vector_at(text: &[u8], from: usize) -> Option<Given>
@@ -30,7 +20,7 @@ fn vector_at(text: &[u8], from: usize) -> Option<Given>
     Some(Given {
         end: runs::skip(text, c.end),
         code: c.code,
-        vector: bits_vector(length, bits.known, bits.number),
+        vector: readers::vector_with(length, readers::kept_value(bits.number)),
     })
 }
 

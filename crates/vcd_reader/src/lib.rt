@@ -9,13 +9,11 @@ mod skipping;
 
 use recording::{Reader, Strobe, Vector};
 
-// The bits that are a word from an offset on: whether they are all 0 or 1, where they end, and their number, held at 65,535.
-// No Option: the number stands beside an x or z too, as in vcd_words::Number, which the contract (`BitsThere`) compares it with.
+// The bits that are a word from an offset on: where they end, and their number, held at 65,535, or None if one of them is x or z.
 #[derive(Clone, Copy)]
 pub struct Bits {
-    pub known: bool,
     pub end: usize,
-    pub number: u16,
+    pub number: Option<u16>,
 }
 
 // A code, and where it ends.

@@ -46,24 +46,17 @@ pub fn bits(text: &[u8], from: usize) -> Option<Bits>
     if is_end(text, from) {
         return None;
     }
-    let mut number = 0;
-    let mut known = true;
+    let mut number = Some(0);
     for end in from..text.len() {
         let b = text[end];
         if !scanning::is_bit(b) {
-            return scanning::is_separator(b).then_some(Bits {
-                known,
-                end,
-                number: number as u16,
-            });
+            return scanning::is_separator(b).then_some(Bits { end, number });
         }
-        number = scanning::with_bit(number, b);
-        known = scanning::still_known(known, b);
+        number = scanning::with_known_bit(number, b);
     }
     Some(Bits {
-        known,
         end: text.len(),
-        number: number as u16,
+        number,
     })
 }
 

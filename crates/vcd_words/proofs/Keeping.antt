@@ -48,11 +48,11 @@ module _ {p : Partial} {w : List ℕ} (k : Keeps p w) where
       go [] h = absurd (omega arith)
       go (b ∷ v) h = refl
 
-  pub kept_number : p.number ≡ counted_of (get_or w 0 0) (begun_with (get_or w 0 0)) (tail w)
+  pub kept_number : p.number ≡ counted_of (begun_with (get_or w 0 0)) (tail w)
   unfolding extended_by
   kept_number = ap (λ (x : Partial). x.number) k.kept ∙ go w k.some
     where
-      go : (v : List ℕ) → 0 < length v → (partial_of v).number ≡ counted_of (get_or v 0 0) (begun_with (get_or v 0 0)) (tail v)
+      go : (v : List ℕ) → 0 < length v → (partial_of v).number ≡ counted_of (begun_with (get_or v 0 0)) (tail v)
       go [] h = absurd (omega arith)
       go (b ∷ v) h = refl
 

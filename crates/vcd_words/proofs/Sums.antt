@@ -3,134 +3,107 @@
 --   time_number             after #, the decimal number of the rest
 --   width_number            after a digit, the decimal number of the word
 --   vector_number           after b or B, the value of the bits
-use Prim.Native.Nat.{ℕ, ◌+◌, ◌*◌, ◌<◌, ◌≤◌, min}
-use mathlib.Core.Path.{◌≡◌, refl, sym, ap, ◌∙◌}
+--   no_number               after another byte, none
+use Prim.Native.Nat.{ℕ, ◌+◌, ◌*◌, ◌<◌, min}
+use mathlib.Core.Path.{◌≡◌, refl, ap, ◌∙◌}
 use mathlib.Core.List.{List, [], ◌∷◌, tail, map}
-use mathlib.Core.Bool.{true, false, ◌&&◌, ◌||◌, cond, and-true, and_assoc}
-use lib.ListN.{length, get_or}
+use mathlib.Core.Bool.{Bool, true, false, ◌&&◌, ◌||◌, cond, and_assoc}
+use lib.ListN.{get_or}
 use lib.Dec.{ltb, eqb}
 use native.Mathlib.Omega.{arith}
-use borrow.Author.Tests.{ltb-true, ltb-false, lt-ltb, le-ltb, eqb-true, ne_eqb}
-use Rattle.lists.proofs.Bools.{or_off, Flag, on, off, flag}
+use borrow.Author.Tests.{ltb-true, lt-ltb, le-ltb, ne_eqb}
+use Rattle.std.specs.Prelude.{Option, Some, None}
+use Rattle.lists.proofs.Bools.{Flag, on, off, flag}
 use Rattle.recording.specs.Words.{all}
-use Rattle.recording.specs.Values.{numeral, is_digit, digit_of, decimal, is_bit, bit_of, is_definite, bit_number}
+use Rattle.recording.specs.Values.{numeral, is_digit, digit_of, is_bit, bit_of, is_definite, bit_number}
 use Rattle.recording.specs.Reading.{max_time}
 use Rattle.vcd_words.specs.declared.Number.{Number}
+use Rattle.vcd_words.specs.declared.Number.TheVariants.{Decimal, Binary}
 use Rattle.vcd_words.specs.declared.Partial.{Partial}
-use Rattle.vcd_words.specs.Partial.{number_with, not_number, with_digit, more_digits, with_bit, more_bits, begun_with, counted_of, Keeps}
+use Rattle.vcd_words.specs.Partial.{in_64, with_digit, more_digits, in_16, with_known_bit, more_bits, begun_with, counted_of, Keeps}
 use Rattle.vcd_words.proofs.Numbers.{digit_range}
 use Rattle.vcd_words.proofs.Keeping.{kept_number}
 
 -- ---- decimal
 
-pub record Holds (n : Number) (v : ℕ) : Type 0 where
-  pub value : n.value ≡ min max_time v
-  pub over : n.over ≡ ltb max_time v
-
--- a number that was over stays so
-stays_over : (v x d : ℕ) → x ≡ min max_time v → (ltb max_time v || ltb max_time (10 * x + d)) ≡ ltb max_time (10 * v + d)
-stays_over v x d e = go (flag (ltb max_time v))
+-- a number above the greatest stays so
+digit_in : (v d b : ℕ) → d ≡ digit_of b → with_digit (in_64 v) b ≡ in_64 (10 * v + d)
+unfolding with_digit
+digit_in v d b e = go (flag (ltb max_time v))
   where
-    go : Flag (ltb max_time v) → (ltb max_time v || ltb max_time (10 * x + d)) ≡ ltb max_time (10 * v + d)
+    go : Flag (ltb max_time v) → with_digit (in_64 v) b ≡ in_64 (10 * v + d)
     go (on f) =
         let above : max_time < v = ltb-true max_time v f in
-        rw f (sym (lt-ltb max_time (10 * v + d) (omega arith)))
-    go (off f) =
-        let below : v ≤ max_time = ltb-false max_time v f in
-        let same : x ≡ v = omega arith in
-        rw (f, same)
+        rw (f, lt-ltb max_time (10 * v + d) (omega arith))
+    go (off f) = rw (f, e)
 
-digit_holds : (n : Number) (v b : ℕ) → Holds n v → Holds (with_digit n b) (10 * v + digit_of b)
-unfolding with_digit
-digit_holds n v b h =
-    record {
-      value = omega (arith, h.value);
-      over = rw h.over (stays_over v n.value (digit_of b) h.value);
-    }
+-- The decimal number that bytes make of a number, if they are digits.
+abbrev pub digits_of : ℕ → List ℕ → Option Number
+digits_of v bs = cond (all is_digit bs) (Some (Decimal (in_64 (numeral 10 v (map digit_of bs))))) None
 
-abbrev digits_of : Number → ℕ → List ℕ → Number
-digits_of n v bs =
-    cond (all is_digit bs)
-    (number_with n.whole n.known (ltb max_time (numeral 10 v (map digit_of bs))) (min max_time (numeral 10 v (map digit_of bs))))
-    not_number
-
-digits_sum : (n : Number) (v : ℕ) (bs : List ℕ) → Holds n v → more_digits n bs ≡ digits_of n v bs
-unfolding with_digit
-digits_sum n v [] h = rw (← h.value, ← h.over)
-digits_sum n v (b ∷ bs) h = go (flag (is_digit b)) (digits_sum (with_digit n b) (10 * v + digit_of b) bs (digit_holds n v b h))
+digits_sum : (v : ℕ) (bs : List ℕ) → more_digits (in_64 v) bs ≡ digits_of v bs
+digits_sum v [] = refl
+digits_sum v (b ∷ bs) = go (flag (is_digit b)) (digits_sum (10 * v + digit_of b) bs)
   where
-    go : Flag (is_digit b) → more_digits (with_digit n b) bs ≡ digits_of (with_digit n b) (10 * v + digit_of b) bs →
-        more_digits n (b ∷ bs) ≡ digits_of n v (b ∷ bs)
-    go (on e) rest = rw e rest
+    go : Flag (is_digit b) → more_digits (in_64 (10 * v + digit_of b)) bs ≡ digits_of (10 * v + digit_of b) bs →
+        more_digits (in_64 v) (b ∷ bs) ≡ digits_of v (b ∷ bs)
+    go (on e) rest = rw (e, digit_in v (digit_of b) b refl) rest
     go (off e) rest = rw e
 
 -- ---- bits
 
-abbrev pub bits_of : Number → ℕ → List ℕ → Number
-bits_of n v bs =
-    cond (all is_bit bs)
-    (number_with n.whole (n.known && all is_definite (map bit_of bs)) n.over (min 65535 (numeral 2 v (map bit_number (map bit_of bs)))))
-    not_number
+bit_in : (known : Bool) (v b : ℕ) → with_known_bit (in_16 known v) b ≡ in_16 (known && is_definite (bit_of b)) (2 * v + bit_number (bit_of b))
+unfolding with_known_bit
+bit_in true v b =
+    let held : min 65535 (2 * min 65535 v + bit_number (bit_of b)) ≡ min 65535 (2 * v + bit_number (bit_of b)) = omega arith in
+    rw held
+bit_in false v b = refl
 
-pub bits_sum : (n : Number) (v : ℕ) (bs : List ℕ) → n.value ≡ min 65535 v → more_bits n bs ≡ bits_of n v bs
-unfolding with_bit
-bits_sum n v [] h = rw (and-true, ← h)
-bits_sum n v (b ∷ bs) h = go (flag (is_bit b)) (bits_sum (with_bit n b) (2 * v + bit_number (bit_of b)) bs more)
+-- The binary number that bytes make of a number, if they are bits.
+abbrev pub bits_of : Bool → ℕ → List ℕ → Option Number
+bits_of known v bs =
+    cond (all is_bit bs) (Some (Binary (in_16 (known && all is_definite (map bit_of bs)) (numeral 2 v (map bit_number (map bit_of bs)))))) None
+
+bits_from : (known : Bool) (v : ℕ) (bs : List ℕ) → more_bits (in_16 known v) bs ≡ bits_of known v bs
+bits_from true v [] = refl
+bits_from false v [] = refl
+bits_from known v (b ∷ bs) = go (flag (is_bit b)) (bits_from (known && is_definite (bit_of b)) (2 * v + bit_number (bit_of b)) bs)
   where
-    more : (with_bit n b).value ≡ min 65535 (2 * v + bit_number (bit_of b))
-    more = omega (arith, h)
-
-    go : Flag (is_bit b) → more_bits (with_bit n b) bs ≡ bits_of (with_bit n b) (2 * v + bit_number (bit_of b)) bs →
-        more_bits n (b ∷ bs) ≡ bits_of n v (b ∷ bs)
-    go (on e) rest = rw (e, ← and_assoc) rest
+    go : Flag (is_bit b) →
+        more_bits (in_16 (known && is_definite (bit_of b)) (2 * v + bit_number (bit_of b))) bs ≡
+        bits_of (known && is_definite (bit_of b)) (2 * v + bit_number (bit_of b)) bs →
+        more_bits (in_16 known v) (b ∷ bs) ≡ bits_of known v (b ∷ bs)
+    go (on e) rest = rw (e, bit_in known v b, ← and_assoc) rest
     go (off e) rest = rw e
+
+pub bits_sum : (bs : List ℕ) → more_bits (Some 0) bs ≡ bits_of true 0 bs
+bits_sum bs = bits_from true 0 bs
 
 -- ---- what is kept of a word
 
-pub time_number :
-    {p : Partial} {w : List ℕ} → Keeps p w → get_or w 0 0 ≡ 35 →
-    p.number ≡
-    cond (all is_digit (tail w)) (number_with true true (ltb max_time (decimal (tail w))) (min max_time (decimal (tail w)))) not_number
-unfolding counted_of begun_with decimal
-time_number {p} {w} k e =
-    kept_number k ∙ ap (λ (b : ℕ). counted_of b (begun_with b) (tail w)) e
-    ∙ digits_sum (number_with true true false 0) 0 (tail w) (record { value = refl; over = refl })
+module _ {p : Partial} {w : List ℕ} (k : Keeps p w) where
+  abbrev first : ℕ
+  first = get_or w 0 0
 
-pub vector_number :
-    {p : Partial} {w : List ℕ} → Keeps p w → (eqb (get_or w 0 0) 98 || eqb (get_or w 0 0) 66) ≡ true →
-    p.number ≡
-    cond (all is_bit (tail w))
-    (number_with true (all is_definite (map bit_of (tail w))) false (min 65535 (numeral 2 0 (map bit_number (map bit_of (tail w))))))
-    not_number
-unfolding counted_of begun_with
-vector_number {p} {w} k e = kept_number k ∙ go (flag (eqb (get_or w 0 0) 98))
-  where
-    of : (b : ℕ) → b ≡ get_or w 0 0 → counted_of b (begun_with b) (tail w) ≡ bits_of (number_with true true false 0) 0 (tail w) →
-        counted_of (get_or w 0 0) (begun_with (get_or w 0 0)) (tail w) ≡ bits_of (number_with true true false 0) 0 (tail w)
-    of b f h = ap (λ (x : ℕ). counted_of x (begun_with x) (tail w)) (sym f) ∙ h
+  pub time_number : first ≡ 35 → p.number ≡ digits_of 0 (tail w)
+  unfolding counted_of begun_with
+  time_number e = kept_number k ∙ ap (λ (b : ℕ). counted_of (begun_with b) (tail w)) e ∙ digits_sum 0 (tail w)
 
-    go : Flag (eqb (get_or w 0 0) 98) →
-        counted_of (get_or w 0 0) (begun_with (get_or w 0 0)) (tail w) ≡ bits_of (number_with true true false 0) 0 (tail w)
-    go (on f) = of 98 (sym (eqb-true (get_or w 0 0) 98 f)) (bits_sum (number_with true true false 0) 0 (tail w) refl)
-    go (off f) =
-        of 66 (sym (eqb-true (get_or w 0 0) 66 (or_off (eqb (get_or w 0 0) 98) (eqb (get_or w 0 0) 66) e f)))
-        (bits_sum (number_with true true false 0) 0 (tail w) refl)
+  pub vector_number : (eqb first 98 || eqb first 66) ≡ true → p.number ≡ bits_of true 0 (tail w)
+  unfolding counted_of begun_with
+  vector_number e = kept_number k ∙ rw e (bits_sum (tail w))
 
-pub width_number :
-    {p : Partial} {w : List ℕ} → Keeps p w → is_digit (get_or w 0 0) ≡ true →
-    p.number ≡ cond (all is_digit (tail w)) (number_with true true (ltb max_time (decimal w)) (min max_time (decimal w))) not_number
-unfolding counted_of begun_with decimal
-width_number {p} {w} k e = kept_number k ∙ go w k.some e
-  where
-    go : (v : List ℕ) → 0 < length v → is_digit (get_or v 0 0) ≡ true →
-        counted_of (get_or v 0 0) (begun_with (get_or v 0 0)) (tail v) ≡
-        cond (all is_digit (tail v)) (number_with true true (ltb max_time (decimal v)) (min max_time (decimal v))) not_number
-    go [] h f = absurd (omega arith)
-    go (b ∷ v) h f =
-        let range = digit_range b f in
-        let no_lower : eqb b 98 ≡ false = ne_eqb b 98 (λ x. omega arith) in
-        let no-upper : eqb b 66 ≡ false = ne_eqb b 66 (λ x. omega arith) in
-        let no_hash : eqb b 35 ≡ false = ne_eqb b 35 (λ x. omega arith) in
-        let fits : ltb max_time (10 * 0 + digit_of b) ≡ false = le-ltb max_time (10 * 0 + digit_of b) (omega arith) in
-        rw (no_lower, no-upper, no_hash, f)
-        (digits_sum (number_with true true false (digit_of b)) (10 * 0 + digit_of b) v (record { value = omega arith; over = sym fits }))
+  pub width_number : is_digit first ≡ true → p.number ≡ digits_of (digit_of first) (tail w)
+  unfolding counted_of begun_with
+  width_number e =
+      let range = digit_range first e in
+      let no_lower : eqb first 98 ≡ false = ne_eqb first 98 (λ x. omega arith) in
+      let no_upper : eqb first 66 ≡ false = ne_eqb first 66 (λ x. omega arith) in
+      let no_hash : eqb first 35 ≡ false = ne_eqb first 35 (λ x. omega arith) in
+      let fits : ltb max_time (digit_of first) ≡ false = le-ltb max_time (digit_of first) (omega arith) in
+      kept_number k ∙ rw (no_lower, no_upper, no_hash, e) (rw fits at (digits_sum (digit_of first) (tail w)))
+
+  pub no_number :
+      (eqb first 98 || eqb first 66) ≡ false → eqb first 35 ≡ false → is_digit first ≡ false → p.number ≡ None
+  unfolding counted_of begun_with
+  no_number e f g = kept_number k ∙ rw (e, f, g)

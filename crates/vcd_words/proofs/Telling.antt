@@ -1,174 +1,134 @@
 -- What is kept of a word tells whether it is a time, a width or a vector, and its number. Assumes nothing.
---   starts, time_told, time_value    a word that begins with #
---   decimal_told, width_value        a decimal word
---   vector_told, vector_kept         a vector
---   ends_word, ends_tail             the bytes of a code, after none or one byte
+--   starts, time_told     a word that begins with #
+--   width_told            a decimal word
+--   vector_told           a vector
+--   none_told             no answer under a condition
+--   ends_word, ends_tail  the bytes of a code, after none or one byte
 use Prim.Native.Nat.{ℕ, ◌+◌, ◌*◌, ◌-◌, ◌^◌, ◌<◌, ◌≤◌, min}
-use mathlib.Core.Path.{◌≡◌, refl, sym, ap, ◌∙◌}
+use mathlib.Core.Path.{◌≡◌, refl, ap, ◌∙◌}
 use mathlib.Core.List.{List, [], ◌∷◌, tail, map}
-use mathlib.Core.Bool.{Bool, true, false, not, ◌&&◌, ◌||◌, cond, and-false}
+use mathlib.Core.Bool.{Bool, true, false, not, ◌&&◌, ◌||◌, cond}
 use lib.ListN.{length, get_or}
 use lib.Dec.{ltb, leb, eqb}
 use native.Mathlib.Nat.{le_trans, pow-le-pow_right, mod-eq_of_lt}
 use native.Mathlib.Omega.{arith}
-use borrow.Author.Tests.{ltb-true, ltb-false, leb-true, leb-false, le-leb, lt-leb, eqb-true}
-use Rattle.lists.proofs.Bools.{and_l, and_r, Flag, on, off, flag}
+use borrow.Author.Tests.{ltb-true, ltb-false, le-leb, lt-leb, eqb-true}
+use Rattle.lists.proofs.Bools.{clash, Flag, on, off, flag}
 use Rattle.recording.specs.Words.{all, is_empty}
-use Rattle.recording.specs.Values.{numeral, is_digit, is_decimal, decimal, is_bit, bit_of, is_definite, bit_number, value, unknown, value_of, vector_of}
+use Rattle.recording.specs.Values.{numeral, is_digit, digit_of, is_decimal, decimal, is_bit, bit_of, is_definite, value_of, vector_of}
 use Rattle.recording.specs.Reading.{max_time, starts_time, is_time, time_of, is_vector}
 use Rattle.vcd_words.specs.declared.Number.{Number}
+use Rattle.vcd_words.specs.declared.Number.TheVariants.{Decimal, Binary}
+use Rattle.recording.specs.declared.Vector.{Vector}
+use Rattle.std.specs.Prelude.{Option, Some, None}
 use Rattle.vcd_words.specs.declared.Partial.{Partial}
-use Rattle.vcd_words.specs.Partial.{number_with, not_number, vector_with, Keeps, Ends}
+use Rattle.vcd_words.specs.Partial.{in_64, kept_value, vector_with, Keeps, Ends}
 use Rattle.vcd_words.proofs.Spells.{small, tail_small, low_numeral, numeral_below}
 use Rattle.vcd_words.proofs.Keeping.{kept_length, kept_first, kept_low}
-use Rattle.vcd_words.proofs.Sums.{time_number, vector_number, width_number}
+use Rattle.vcd_words.proofs.Sums.{digits_of, bits_of, time_number, vector_number, width_number, no_number}
 
--- a number is whole exactly if it is one
-whole_cond : (b known over : Bool) (v : ℕ) → (cond {A = Number} b (number_with true known over v) not_number).whole ≡ b
-whole_cond true known over v = refl
-whole_cond false known over v = refl
+-- no answer under a condition
+pub none_told : {A : Type 0} (b : Bool) (x : A) → None ≡ cond b (Some x) None → b ≡ false
+none_told true x e = absurd cc
+none_told false x e = refl
 
-not_over : (v : ℕ) → not (ltb max_time v) ≡ leb v max_time
-not_over v = go (flag (ltb max_time v))
+-- ---- what a number that is kept gives, where a test of the word holds
+
+abbrev pub time_in : Bool → Option Number → Option ℕ
+time_in test (Some (Decimal n)) = cond test n None
+time_in test (Some (Binary n)) = None
+time_in test None = None
+
+-- A number of 64 bits, or the greatest.
+abbrev pub held : Option ℕ → ℕ
+held None = max_time
+held (Some v) = v
+
+abbrev pub width_in : Bool → Option Number → Option ℕ
+width_in test (Some (Decimal n)) = cond test (Some (min (held n) 255)) None
+width_in test (Some (Binary n)) = None
+width_in test None = None
+
+abbrev pub vector_in : Bool → ℕ → Option Number → Option Vector
+vector_in test length (Some (Decimal n)) = None
+vector_in test length (Some (Binary n)) = cond test (Some (vector_with length (kept_value n))) None
+vector_in test length None = None
+
+held_64 : (v : ℕ) → min (held (in_64 v)) 255 ≡ min 255 v
+held_64 v = go (flag (ltb max_time v))
   where
-    go : Flag (ltb max_time v) → not (ltb max_time v) ≡ leb v max_time
-    go (on e) = rw (e, lt-leb v max_time (ltb-true max_time v e))
-    go (off e) = rw (e, le-leb v max_time (ltb-false max_time v e))
+    go : Flag (ltb max_time v) → min (held (in_64 v)) 255 ≡ min 255 v
+    go (on e) = let above : max_time < v = ltb-true max_time v e in rw e (omega arith)
+    go (off e) = rw e (omega arith)
+
+time_rest : (u : List ℕ) → time_in (not (is_empty u)) (digits_of 0 u) ≡ cond (is_decimal u && leb (decimal u) max_time) (Some (decimal u)) None
+unfolding decimal
+time_rest [] = refl
+time_rest (b ∷ u) = go (flag (all is_digit (b ∷ u))) (flag (ltb max_time (numeral 10 0 (map digit_of (b ∷ u)))))
+  where
+    go : Flag (all is_digit (b ∷ u)) → Flag (ltb max_time (numeral 10 0 (map digit_of (b ∷ u)))) →
+        time_in true (digits_of 0 (b ∷ u)) ≡
+        cond (all is_digit (b ∷ u) && leb (numeral 10 0 (map digit_of (b ∷ u))) max_time)
+        (Some (numeral 10 0 (map digit_of (b ∷ u)))) None
+    go (off e) f = rw e
+    go (on e) (on f) = rw (e, f, lt-leb _ max_time (ltb-true max_time _ f))
+    go (on e) (off f) = rw (e, f, le-leb _ max_time (ltb-false max_time _ f))
+
+width_rest :
+    (v : List ℕ) → is_digit (get_or v 0 0) ≡ true →
+    width_in true (digits_of (digit_of (get_or v 0 0)) (tail v)) ≡ cond (is_decimal v) (Some (min 255 (decimal v))) None
+unfolding decimal
+width_rest [] f = clash f refl
+width_rest (b ∷ u) f = go (flag (all is_digit u))
+  where
+    first : 10 * 0 + digit_of b ≡ digit_of b
+    first = omega arith
+
+    go : Flag (all is_digit u) →
+        width_in true (digits_of (digit_of b) u) ≡
+        cond (is_digit b && all is_digit u) (Some (min 255 (numeral 10 (10 * 0 + digit_of b) (map digit_of u)))) None
+    go (on e) = rw (e, f, first, held_64 (numeral 10 (digit_of b) (map digit_of u)))
+    go (off e) = rw (e, f)
+
+width_off : (n : Option Number) → width_in false n ≡ None
+width_off (Some (Decimal n)) = refl
+width_off (Some (Binary n)) = refl
+width_off None = refl
+
+not_decimal : (v : List ℕ) → is_digit (get_or v 0 0) ≡ false → is_decimal v ≡ false
+not_decimal [] f = refl
+not_decimal (b ∷ u) f = rw f
+
+vector_rest :
+    (u : List ℕ) →
+    vector_in (not (is_empty u)) (min 255 (length u)) (bits_of true 0 u) ≡ cond (not (is_empty u) && all is_bit u) (Some (vector_of u)) None
+unfolding vector_of value_of
+vector_rest [] = refl
+vector_rest (b ∷ u) = go (flag (all is_bit (b ∷ u))) (flag (all is_definite (map bit_of (b ∷ u))))
+  where
+    go : Flag (all is_bit (b ∷ u)) → Flag (all is_definite (map bit_of (b ∷ u))) →
+        vector_in true (min 255 (length (b ∷ u))) (bits_of true 0 (b ∷ u)) ≡ cond (all is_bit (b ∷ u)) (Some (vector_of (b ∷ u))) None
+    go (off e) f = rw e
+    go (on e) (on f) = rw (e, f)
+    go (on e) (off f) = rw (e, f)
+
+vector_none : (test : Bool) (n v : ℕ) (u : List ℕ) → vector_in test n (digits_of v u) ≡ None
+vector_none test n v u = go (flag (all is_digit u))
+  where
+    go : Flag (all is_digit u) → vector_in test n (digits_of v u) ≡ None
+    go (on e) = rw e
+    go (off e) = rw e
 
 module _ {p : Partial} {w : List ℕ} (k : Keeps p w) where
   -- ---- the rest of the word
 
-  pub rest_none : p.length < 2 → is_empty (tail w) ≡ true
-  rest_none h = go w (omega (arith, kept_length k))
+  rest_some : leb 2 p.length ≡ not (is_empty (tail w))
+  rest_some = go w k.some (kept_length k)
     where
-      go : (v : List ℕ) → length v < 2 → is_empty (tail v) ≡ true
-      go [] f = refl
-      go (b ∷ []) f = refl
-      go (b ∷ c ∷ v) f = absurd (omega arith)
-
-  pub rest_some : 2 ≤ p.length → is_empty (tail w) ≡ false
-  rest_some h = go w (omega (arith, kept_length k))
-    where
-      go : (v : List ℕ) → 2 ≤ length v → is_empty (tail v) ≡ false
-      go [] f = absurd (omega arith)
-      go (b ∷ []) f = absurd (omega arith)
-      go (b ∷ c ∷ v) f = refl
-
-  -- ---- times
-
-  pub starts : eqb p.first 35 ≡ starts_time w
-  starts = ap (λ (b : ℕ). eqb b 35) (kept_first k)
-
-  module _ (s : starts_time w ≡ true) where
-    time_whole : p.number.whole ≡ all is_digit (tail w)
-    time_whole = ap (λ (n : Number). n.whole) (time_number k (eqb-true (get_or w 0 0) 35 s)) ∙ whole_cond (all is_digit (tail w)) true _ _
-
-    time_short : p.length < 2 → false ≡ is_time w
-    time_short h = rw (s, rest_none h)
-
-    time_letters : p.number.whole ≡ false → false ≡ is_time w
-    time_letters e = rw (s, sym time_whole ∙ e, and-false)
-
-    time_fits : 2 ≤ p.length → p.number.whole ≡ true → not p.number.over ≡ is_time w
-    time_fits h e =
-        let digits : all is_digit (tail w) ≡ true = sym time_whole ∙ e in
-        let over : p.number.over ≡ ltb max_time (decimal (tail w))
-        = ap (λ (n : Number). n.over) (rw digits at (time_number k (eqb-true (get_or w 0 0) 35 s))) in
-        rw (over, s, rest_some h, digits) (not_over (decimal (tail w)))
-
-    -- two bytes or more, all digits after the first, and no more than the greatest time
-    pub time_told : is_time w ≡ (leb 2 p.length && (p.number.whole && not p.number.over))
-    time_told = sym (go (flag (leb 2 p.length)) (flag p.number.whole))
-      where
-        go : Flag (leb 2 p.length) → Flag p.number.whole → (leb 2 p.length && (p.number.whole && not p.number.over)) ≡ is_time w
-        go (on f) (on g) = rw (f, g) (time_fits (leb-true 2 p.length f) g)
-        go (on f) (off g) = rw (f, g) (time_letters g)
-        go (off f) g = rw f (time_short (leb-false 2 p.length f))
-
-  pub time_value : is_time w ≡ true → p.number.value ≡ time_of w
-  time_value e =
-      let first = and_l (starts_time w && is_decimal (tail w)) (leb (decimal (tail w)) max_time) e in
-      let fits = leb-true (decimal (tail w)) max_time (and_r (starts_time w && is_decimal (tail w)) (leb (decimal (tail w)) max_time) e) in
-      let digits = and_r (not (is_empty (tail w))) (all is_digit (tail w)) (and_r (starts_time w) (is_decimal (tail w)) first) in
-      let hash = eqb-true (get_or w 0 0) 35 (and_l (starts_time w) (is_decimal (tail w)) first) in
-      let held : p.number.value ≡ min max_time (decimal (tail w)) = ap (λ (n : Number). n.value) (rw digits at (time_number k hash)) in
-      omega arith
-
-  -- ---- decimal words
-
-  decimal_parts : is_decimal w ≡ (is_digit (get_or w 0 0) && all is_digit (tail w))
-  decimal_parts = go w
-    where
-      go : (v : List ℕ) → is_decimal v ≡ (is_digit (get_or v 0 0) && all is_digit (tail v))
-      go [] = refl
-      go (b ∷ v) = refl
-
-  decimal_first : is_digit p.first ≡ false → false ≡ is_decimal w
-  decimal_first e = sym (decimal_parts ∙ rw (← (kept_first k), e))
-
-  decimal_rest : is_digit p.first ≡ true → p.number.whole ≡ is_decimal w
-  decimal_rest e =
-      let first : is_digit (get_or w 0 0) ≡ true = rw (kept_first k) at e in
-      let whole : p.number.whole ≡ all is_digit (tail w)
-      = ap (λ (n : Number). n.whole) (width_number k first) ∙ whole_cond (all is_digit (tail w)) true _ _ in
-      whole ∙ sym (rw first at decimal_parts)
-
-  -- a digit first, and all digits after it
-  pub decimal_told : is_decimal w ≡ (is_digit p.first && p.number.whole)
-  decimal_told = sym (go (flag (is_digit p.first)))
-    where
-      go : Flag (is_digit p.first) → (is_digit p.first && p.number.whole) ≡ is_decimal w
-      go (on f) = rw f (decimal_rest f)
-      go (off f) = rw f (decimal_first f)
-
-  pub width_value : is_decimal w ≡ true → min p.number.value 255 ≡ min 255 (decimal w)
-  width_value e =
-      let parts : (is_digit (get_or w 0 0) && all is_digit (tail w)) ≡ true = sym decimal_parts ∙ e in
-      let digits = and_r (is_digit (get_or w 0 0)) (all is_digit (tail w)) parts in
-      let held : p.number.value ≡ min max_time (decimal w)
-      = ap (λ (n : Number). n.value) (rw digits at (width_number k (and_l (is_digit (get_or w 0 0)) (all is_digit (tail w)) parts))) in
-      omega arith
-
-  -- ---- vectors
-
-  abbrev binary : Bool
-  binary = eqb (get_or w 0 0) 98 || eqb (get_or w 0 0) 66
-
-  is_binary : (eqb p.first 98 || eqb p.first 66) ≡ binary
-  is_binary = ap (λ (b : ℕ). eqb b 98 || eqb b 66) (kept_first k)
-
-  vector_first : (eqb p.first 98 || eqb p.first 66) ≡ false → false ≡ is_vector w
-  vector_first e = rw (sym is_binary ∙ e)
-
-  module _ (s : (eqb p.first 98 || eqb p.first 66) ≡ true) where
-    vector_short : p.length < 2 → false ≡ is_vector w
-    vector_short h = rw (sym is_binary ∙ s, rest_none h)
-
-    vector_rest : 2 ≤ p.length → p.number.whole ≡ is_vector w
-    vector_rest h =
-        let whole : p.number.whole ≡ all is_bit (tail w)
-        = ap (λ (n : Number). n.whole) (vector_number k (sym is_binary ∙ s)) ∙ whole_cond (all is_bit (tail w)) _ _ _ in
-        rw (sym is_binary ∙ s, rest_some h) whole
-
-  -- b or B first, two bytes or more, and all bits after the first
-  pub vector_told : is_vector w ≡ ((eqb p.first 98 || eqb p.first 66) && (leb 2 p.length && p.number.whole))
-  vector_told = sym (go (flag (eqb p.first 98 || eqb p.first 66)) (flag (leb 2 p.length)))
-    where
-      go : Flag (eqb p.first 98 || eqb p.first 66) → Flag (leb 2 p.length) →
-          ((eqb p.first 98 || eqb p.first 66) && (leb 2 p.length && p.number.whole)) ≡ is_vector w
-      go (on f) (on g) = rw (f, g) (vector_rest f (leb-true 2 p.length g))
-      go (on f) (off g) = rw (f, g) (vector_short f (leb-false 2 p.length g))
-      go (off f) g = rw f (vector_first f)
-
-  vector_parts :
-      is_vector w ≡ true →
-      (p.number.known ≡ all is_definite (map bit_of (tail w)))
-      × (p.number.value ≡ min 65535 (numeral 2 0 (map bit_number (map bit_of (tail w)))))
-  vector_parts e =
-      let bits = and_r (binary && not (is_empty (tail w))) (all is_bit (tail w)) e in
-      let first = and_l binary (not (is_empty (tail w))) (and_l (binary && not (is_empty (tail w))) (all is_bit (tail w)) e) in
-      let number = rw bits at (vector_number k first) in
-      (ap (λ (n : Number). n.known) number, ap (λ (n : Number). n.value) number)
+      go : (v : List ℕ) → 0 < length v → p.length ≡ min 256 (length v) → leb 2 p.length ≡ not (is_empty (tail v))
+      go [] h e = absurd (omega arith)
+      go (b ∷ []) h e = lt-leb 2 p.length (omega arith)
+      go (b ∷ c ∷ v) h e = le-leb 2 p.length (omega arith)
 
   -- the length of the rest
   rest_length : min (p.length - 1) 255 ≡ min 255 (length (tail w))
@@ -178,15 +138,41 @@ module _ {p : Partial} {w : List ℕ} (k : Keeps p w) where
       go [] h e = absurd (omega arith)
       go (b ∷ v) h e = omega arith
 
-  -- the bits of a vector, and their value
-  pub vector_kept :
-      is_vector w ≡ true →
-      vector_with (min (p.length - 1) 255) (cond p.number.known (value true (min p.number.value 65535)) unknown) ≡ vector_of (tail w)
-  unfolding vector_of value_of
-  vector_kept e =
-      let parts = vector_parts e in
-      let number : min p.number.value 65535 ≡ min 65535 (numeral 2 0 (map bit_number (map bit_of (tail w)))) = omega (arith, parts.1) in
-      rw (rest_length, number, parts.0)
+  -- ---- times
+
+  pub starts : eqb p.first 35 ≡ starts_time w
+  starts = ap (λ (b : ℕ). eqb b 35) (kept_first k)
+
+  pub time_told : starts_time w ≡ true → time_in (leb 2 p.length) p.number ≡ cond (is_time w) (Some (time_of w)) None
+  time_told s = rw (time_number k (eqb-true (get_or w 0 0) 35 s), rest_some, s) (time_rest (tail w))
+
+  -- ---- decimal words
+
+  pub width_told : width_in (is_digit p.first) p.number ≡ cond (is_decimal w) (Some (min 255 (decimal w))) None
+  width_told = rw (kept_first k) (go (flag (is_digit (get_or w 0 0))))
+    where
+      go : Flag (is_digit (get_or w 0 0)) →
+          width_in (is_digit (get_or w 0 0)) p.number ≡ cond (is_decimal w) (Some (min 255 (decimal w))) None
+      go (on e) = rw (e, width_number k e) (width_rest w e)
+      go (off e) = rw (e, width_off p.number, not_decimal w e)
+
+  -- ---- vectors
+
+  no_vector :
+      (test : Bool) (n : ℕ) → (eqb (get_or w 0 0) 98 || eqb (get_or w 0 0) 66) ≡ false → Flag (eqb (get_or w 0 0) 35) →
+      Flag (is_digit (get_or w 0 0)) → vector_in test n p.number ≡ None
+  no_vector test n e (on f) g = rw (time_number k (eqb-true (get_or w 0 0) 35 f)) (vector_none test n 0 (tail w))
+  no_vector test n e (off f) (on g) = rw (width_number k g) (vector_none test n (digit_of (get_or w 0 0)) (tail w))
+  no_vector test n e (off f) (off g) = rw (no_number k e f g)
+
+  pub vector_told :
+      vector_in (leb 2 p.length) (min (p.length - 1) 255) p.number ≡ cond (is_vector w) (Some (vector_of (tail w))) None
+  vector_told = rw (rest_some, rest_length) (go (flag (eqb (get_or w 0 0) 98 || eqb (get_or w 0 0) 66)))
+    where
+      go : Flag (eqb (get_or w 0 0) 98 || eqb (get_or w 0 0) 66) →
+          vector_in (not (is_empty (tail w))) (min 255 (length (tail w))) p.number ≡ cond (is_vector w) (Some (vector_of (tail w))) None
+      go (on e) = rw (vector_number k e, e) (vector_rest (tail w))
+      go (off e) = rw (no_vector _ _ e (flag (eqb (get_or w 0 0) 35)) (flag (is_digit (get_or w 0 0))), e)
 
   -- ---- codes
 

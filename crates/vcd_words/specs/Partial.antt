@@ -2,15 +2,16 @@
 --   run bs            the bytes before the first separator
 --   partial_of w       what is kept of the word w
 --   extended_by p bs   what is kept when the bytes bs are added to a word of which p is kept
-use Rattle.std.specs.Prelude.{ℕ, ◌+◌, ◌*◌, ◌-◌, ◌/◌, ◌%◌, ◌<◌, ◌≤◌, min, ◌≡◌, List, [], ◌∷◌, Bool, true, false, not, ◌&&◌, ◌||◌, cond, length, take, drop, ltb, eqb}
+use Rattle.std.specs.Prelude.{ℕ, ◌+◌, ◌*◌, ◌-◌, ◌/◌, ◌%◌, ◌<◌, ◌≤◌, min, ◌≡◌, List, [], ◌∷◌, Bool, true, ◌||◌, cond, length, take, drop, ltb, eqb, Option, None, Some}
 use Prim.Native.String.{String}
 use Rattle.recording.specs.Words.{separator, all}
-use Rattle.recording.specs.Values.{numeral, is_digit, digit_of, is_bit, bit_of, is_definite, bit_number, value_of}
+use Rattle.recording.specs.Values.{numeral, is_digit, digit_of, is_bit, bit_of, is_definite, bit_number, value, unknown, value_of}
 use Rattle.recording.specs.Stamps.{not_grammar, bad_variable, not_known, not_rising, too_many}
 use Rattle.recording.specs.Reading.{max_time}
 use Rattle.recording.specs.declared.Value.{Value}
 use Rattle.recording.specs.declared.Vector.{Vector}
 use Rattle.vcd_words.specs.declared.Number.{Number}
+use Rattle.vcd_words.specs.declared.Number.TheVariants.{Decimal, Binary}
 use Rattle.vcd_words.specs.declared.Partial.{Partial}
 use Rattle.vcd_words.specs.declared.Spelling.{Spelling}
 use Rattle.vcd_words.specs.declared.Misreading.{Misreading}
@@ -49,55 +50,59 @@ spell_high h l (b ∷ bs) = spell_high (high_after h l) (low_after l b) bs
 
 -- ---- numbers
 
-abbrev pub number_with : Bool → Bool → Bool → ℕ → Number
-number_with whole known over value = record { whole = whole; known = known; over = over; value = value }
+-- A number, or none if it is above 2^64 - 1.
+abbrev pub in_64 : ℕ → Option ℕ
+in_64 v = cond (ltb max_time v) None (Some v)
 
-abbrev pub not_number : Number
-not_number = number_with false false false 0
+unfoldable pub with_digit : Option ℕ → ℕ → Option ℕ
+with_digit None b = None
+with_digit (Some v) b = in_64 (10 * v + digit_of b)
 
-unfoldable pub with_digit : Number → ℕ → Number
-with_digit n b =
-    number_with n.whole n.known (n.over || ltb max_time (10 * n.value + digit_of b)) (min max_time (10 * n.value + digit_of b))
+abbrev pub more_digits : Option ℕ → List ℕ → Option Number
+more_digits n [] = Some (Decimal n)
+more_digits n (b ∷ bs) = cond (is_digit b) (more_digits (with_digit n b) bs) None
 
-abbrev pub more_digits : Number → List ℕ → Number
-more_digits n [] = n
-more_digits n (b ∷ bs) = cond (is_digit b) (more_digits (with_digit n b) bs) not_number
+-- A number held at 65,535, or none where a bit isn't 0 or 1.
+abbrev pub in_16 : Bool → ℕ → Option ℕ
+in_16 known v = cond known (Some (min 65535 v)) None
 
-unfoldable pub with_bit : Number → ℕ → Number
-with_bit n b =
-    number_with n.whole (n.known && is_definite (bit_of b)) n.over (min 65535 (2 * n.value + bit_number (bit_of b)))
+unfoldable pub with_known_bit : Option ℕ → ℕ → Option ℕ
+with_known_bit None b = None
+with_known_bit (Some v) b = in_16 (is_definite (bit_of b)) (2 * v + bit_number (bit_of b))
 
-abbrev pub more_bits : Number → List ℕ → Number
-more_bits n [] = n
-more_bits n (b ∷ bs) = cond (is_bit b) (more_bits (with_bit n b) bs) not_number
+abbrev pub more_bits : Option ℕ → List ℕ → Option Number
+more_bits n [] = Some (Binary n)
+more_bits n (b ∷ bs) = cond (is_bit b) (more_bits (with_known_bit n b) bs) None
 
 -- After the first byte: a digit is one of the number.
-unfoldable pub begun_with : ℕ → Number
-begun_with b = number_with true true false (cond (is_digit b) (digit_of b) 0)
+unfoldable pub begun_with : ℕ → Option Number
+begun_with b =
+    cond (eqb b 98 || eqb b 66) (Some (Binary (Some 0)))
+    (cond (eqb b 35) (Some (Decimal (Some 0)))
+    (cond (is_digit b) (Some (Decimal (Some (digit_of b)))) None))
 
--- The bytes bs are added to a word that begins with a byte.
-unfoldable pub counted_of : ℕ → Number → List ℕ → Number
-counted_of first n bs =
-    cond (not n.whole) n
-    (cond (eqb first 98 || eqb first 66) (more_bits n bs)
-    (cond (eqb first 35 || is_digit first) (more_digits n bs) n))
+-- The bytes bs are added.
+unfoldable pub counted_of : Option Number → List ℕ → Option Number
+counted_of None bs = None
+counted_of (Some (Decimal n)) bs = more_digits n bs
+counted_of (Some (Binary n)) bs = more_bits n bs
 
 -- ---- a word
 
-abbrev pub partial_with : ℕ → ℕ → ℕ → ℕ → Number → Partial
+abbrev pub partial_with : ℕ → ℕ → ℕ → ℕ → Option Number → Partial
 partial_with length first high low n = record { length = length; first = first; high = high; low = low; number = n }
 
 abbrev pub empty : Partial
-empty = partial_with 0 0 0 0 not_number
+empty = partial_with 0 0 0 0 None
 
 unfoldable pub extended_by : Partial → List ℕ → Partial
 extended_by p [] = p
 extended_by p (b ∷ bs) =
     cond (eqb p.length 0)
     (partial_with (min 256 (p.length + length (b ∷ bs))) b (spell_high p.high p.low (b ∷ bs)) (spell_low p.low (b ∷ bs))
-    (counted_of b (begun_with b) bs))
+    (counted_of (begun_with b) bs))
     (partial_with (min 256 (p.length + length (b ∷ bs))) p.first (spell_high p.high p.low (b ∷ bs)) (spell_low p.low (b ∷ bs))
-    (counted_of p.first p.number (b ∷ bs)))
+    (counted_of p.number (b ∷ bs)))
 
 -- What is kept of a whole word.
 abbrev pub partial_of : List ℕ → Partial
@@ -111,6 +116,11 @@ pub record Keeps (p : Partial) (w : List ℕ) : Type 0 where
 
 abbrev pub vector_with : ℕ → Value → Vector
 vector_with length v = record { length = length; value = v }
+
+-- The value of a number, or of none.
+abbrev pub kept_value : Option ℕ → Value
+kept_value (Some n) = value true n
+kept_value None = unknown
 
 abbrev pub bit_value : ℕ → Value
 bit_value b = value_of (bit_of b ∷ [])

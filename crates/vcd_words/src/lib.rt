@@ -9,26 +9,24 @@ pub mod scanning;
 pub mod stamps;
 pub mod words;
 
-// The number that a word spells after its first byte, as far as it is read: decimal after # or a digit, binary after b or B.
-// whole: every byte is a digit. known: no bit is x or z. over: the number is above 2^64 - 1, and value is held there; a binary one is
-// held at 65,535. over stands beside the value, and is no Option of it, since a width is judged by the value held there too.
+// The number that a word spells, as far as it is read.
 #[derive(Clone, Copy)]
-pub struct Number {
-    pub whole: bool,
-    pub known: bool,
-    pub over: bool,
-    pub value: u64,
+pub enum Number {
+    // the digits after #, or of the whole word; None if it is above 2^64 - 1
+    Decimal(Option<u64>),
+    // the bits after b or B, held at 65,535; None if one of them is x or z
+    Binary(Option<u16>),
 }
 
 // What is kept of a word under way, of one size whatever the word's length: the length, held at 256; the first byte; the last sixteen
-// bytes, as two numbers of eight; and the number that the word spells.
+// bytes, as two numbers of eight; and the number that the word spells, if it spells one.
 #[derive(Clone, Copy)]
 pub struct Partial {
     pub length: u16,
     pub first: u8,
     pub high: u64,
     pub low: u64,
-    pub number: Number,
+    pub number: Option<Number>,
 }
 
 // What is kept of the last sixteen bytes.

@@ -1,15 +1,15 @@
 // What a word is, by what is kept of it.
-ghost use Rattle.std.specs.Prelude.{ℕ, min, ◌≡◌, true, cond};
+ghost use Rattle.std.specs.Prelude.{ℕ, min, ◌≡◌, true, cond, Some, None};
 ghost use Rattle.std.specs.Int.{w64, from_be_bytes};
 ghost use mathlib.Core.List.{List, tail};
 ghost use Rattle.lists.specs.Numbers.{between};
 ghost use Rattle.recording.specs.Words.{all, bytes_of, is_text};
-ghost use Rattle.recording.specs.Values.{code_of, is_decimal, decimal, value, unknown, vector_of};
-ghost use Rattle.recording.specs.Reading.{is_vector, starts_time, is_time};
+ghost use Rattle.recording.specs.Values.{code_of, is_decimal, decimal, vector_of};
+ghost use Rattle.recording.specs.Reading.{is_vector, starts_time, is_time, time_of};
 ghost use Rattle.vcd_words.specs.Partial.{Keeps, Ends, text_of, spelling_with, spelling_of};
 
 use crate::{Keyword, Number, Partial, Spelling, readers, scanning};
-use recording::{Value, Vector};
+use recording::Vector;
 
 fn spelling_with(length: u16, high: [u8; 8], low: [u8; 8]) -> Spelling
     ensures { result ≡ spelling_with length (from_be_bytes w64 high) (from_be_bytes w64 low) }
@@ -93,49 +93,37 @@ pub fn starts_time(p: Partial) -> bool
     p.first == b'#'
 }
 
-// Asked of a word that begins with #.
-pub fn is_time(p: Partial) -> bool
-    ensures { (w : List ℕ) → Keeps p w → starts_time w ≡ true → result ≡ is_time w }
+// The time of a word that begins with #, if it is one.
+pub fn time(p: Partial) -> Option<u64>
+    ensures { (w : List ℕ) → Keeps p w → starts_time w ≡ true → result ≡ cond (is_time w) (Some (time_of w)) None }
 {
-    p.number.whole && 2 <= p.length && !p.number.over
-}
-
-pub fn is_decimal(p: Partial) -> bool
-    ensures { (w : List ℕ) → Keeps p w → result ≡ is_decimal w }
-{
-    scanning::is_digit(p.first) && p.number.whole
-}
-
-// The decimal number, held at 255; asked of a word that is one.
-#[tactic(auto, using(crate::proofs::Telling::width_value))]
-pub fn width(p: Partial) -> u8
-    ensures { (w : List ℕ) → Keeps p w → is_decimal w ≡ true → result ≡ min 255 (decimal w) }
-{
-    p.number.value.min(255) as u8
-}
-
-pub fn is_vector(p: Partial) -> bool
-    ensures { (w : List ℕ) → Keeps p w → result ≡ is_vector w }
-{
-    scanning::is_binary(p.first) && 2 <= p.length && p.number.whole
-}
-
-// The value of a binary number, held at 65,535.
-fn binary(n: Number) -> Value
-    ensures { result ≡ cond n.known (value true (min n.value 65535)) unknown }
-{
-    if n.known {
-        readers::value_with(true, n.value.min(65535) as u16)
-    } else {
-        readers::value_with(false, 0)
+    match p.number {
+        Some(Number::Decimal(time)) if 2 <= p.length => time,
+        _ => None,
     }
 }
 
-// Asked of a word that is a vector.
-#[tactic(auto, using(crate::proofs::Telling::vector_kept))]
-pub fn vector(p: Partial) -> Vector
-    ensures { (w : List ℕ) → Keeps p w → is_vector w ≡ true → result ≡ vector_of (tail w) }
+// The decimal number, held at 255, if the word is one.
+pub fn width(p: Partial) -> Option<u8>
+    ensures { (w : List ℕ) → Keeps p w → result ≡ cond (is_decimal w) (Some (min 255 (decimal w))) None }
 {
-    let length = p.length.saturating_sub(1).min(255) as u8;
-    readers::vector_with(length, binary(p.number))
+    match p.number {
+        Some(Number::Decimal(n)) if scanning::is_digit(p.first) => {
+            Some(n.unwrap_or(u64::MAX).min(255) as u8)
+        }
+        _ => None,
+    }
+}
+
+// The vector, if the word is one.
+pub fn vector(p: Partial) -> Option<Vector>
+    ensures { (w : List ℕ) → Keeps p w → result ≡ cond (is_vector w) (Some (vector_of (tail w))) None }
+{
+    match p.number {
+        Some(Number::Binary(n)) if 2 <= p.length => {
+            let length = (p.length - 1).min(255) as u8;
+            Some(readers::vector_with(length, readers::kept_value(n)))
+        }
+        _ => None,
+    }
 }

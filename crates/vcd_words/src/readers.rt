@@ -1,7 +1,7 @@
 // The reader's records made. Every literal of one in code stands here, as in recording/specs/Records.antt.
 ghost use Rattle.std.specs.Prelude.{◌≡◌, true};
 ghost use Rattle.recording.specs.Values.{value as value_with};
-ghost use Rattle.vcd_words.specs.Partial.{vector_with, number_of};
+ghost use Rattle.vcd_words.specs.Partial.{kept_value, vector_with, number_of};
 ghost use Rattle.recording.specs.Records.{start as start_of, variable_of, at as at_place, with_pending, with_width, with_code, with_vector};
 ghost use Rattle.recording.specs.Records.{with_variable, with_value, declaring as declaring_of, with_stamp, with_time, with_up, with_taken, refused as refused_of};
 ghost use Rattle.recording.specs.Records.{fault_with, strobe_with, read_with, only as only_of};
@@ -16,6 +16,16 @@ pub fn value_with(known: bool, number: u16) -> Value
     ensures { result ≡ value_with known number }
 {
     Value { known, number }
+}
+
+// The value of a number, or of none.
+pub fn kept_value(number: Option<u16>) -> Value
+    ensures { result ≡ kept_value number }
+{
+    match number {
+        Some(number) => value_with(true, number),
+        None => value_with(false, 0),
+    }
 }
 
 pub fn vector_with(length: u8, v: Value) -> Vector

@@ -1,9 +1,8 @@
 // The bytes of a word, up to a separator or the slice's end.
-ghost use Rattle.std.specs.Prelude.{◌+◌, ◌*◌, ◌≤◌, min, ◌≡◌, true, false, ◌&&◌, ◌||◌, length, drop, ltb, eqb};
+ghost use Rattle.std.specs.Prelude.{◌+◌, ◌*◌, min, ◌≡◌, true, ◌&&◌, ◌||◌, length, drop, eqb};
 ghost use Rattle.recording.specs.Words.{separator};
 ghost use Rattle.recording.specs.Values.{is_digit, is_bit, is_definite, bit_of, bit_number};
-ghost use Rattle.recording.specs.Reading.{max_time};
-ghost use Rattle.vcd_words.specs.Partial.{run, spell_high, spell_low, number_with, not_number, with_digit, more_digits, more_bits, begun_with};
+ghost use Rattle.vcd_words.specs.Partial.{run, spell_high, spell_low, with_digit, more_digits, with_known_bit, more_bits, begun_with};
 ghost use Rattle.vcd_words.specs.Partial.{counted_of, partial_with, empty, extended_by};
 
 use crate::{Number, Partial, Scanned, Spelled};
@@ -15,24 +14,7 @@ const SEVEN: u64 = 1 << 56;
 pub fn nothing() -> Partial
     ensures { result ≡ empty }
 {
-    partial_with(0, 0, 0, 0, not_number())
-}
-
-fn number_with(whole: bool, known: bool, over: bool, value: u64) -> Number
-    ensures { result ≡ number_with whole known over value }
-{
-    Number {
-        whole,
-        known,
-        over,
-        value,
-    }
-}
-
-fn not_number() -> Number
-    ensures { result ≡ not_number }
-{
-    number_with(false, false, false, 0)
+    partial_with(0, 0, 0, 0, None)
 }
 
 // Most bytes of a text are above the space, the highest separator.
@@ -74,32 +56,26 @@ pub fn is_digit(b: u8) -> bool
     b.is_ascii_digit()
 }
 
-// A digit more, of a number that is held at 2^64 - 1.
+// A digit more, of a number that is none above 2^64 - 1.
 #[tactic(auto, unfolding(crate::specs::Partial::with_digit))]
-fn with_digit(n: Number, b: u8) -> Number
+fn with_digit(n: Option<u64>, b: u8) -> Option<u64>
     requires { is_digit b ≡ true }
     ensures { result ≡ with_digit n b }
 {
-    let greatest = u128::from(u64::MAX);
-    let sum = 10 * u128::from(n.value) + u128::from(b - b'0');
-    Number {
-        over: n.over || greatest < sum,
-        value: sum.min(greatest) as u64,
-        ..n
-    }
+    n?.checked_mul(10)?.checked_add(u64::from(b - b'0'))
 }
 
-fn digits(bytes: &[u8], n: Number) -> Number
+fn digits(bytes: &[u8], n: Option<u64>) -> Option<Number>
     ensures { result ≡ more_digits n bytes.now }
 {
     let mut sum = n;
     for b in bytes {
         if !is_digit(*b) {
-            return not_number();
+            return None;
         }
         sum = with_digit(sum, *b);
     }
-    sum
+    Some(Number::Decimal(sum))
 }
 
 // ---- vectors
@@ -123,48 +99,54 @@ pub fn with_bit(value: u64, b: u8) -> u64
     value.saturating_mul(2).saturating_add(bit).min(65535)
 }
 
-fn bits(bytes: &[u8], n: Number) -> Number
+// A bit more, of a number that is none after an x or z.
+#[tactic(auto, unfolding(crate::specs::Partial::with_known_bit))]
+pub fn with_known_bit(n: Option<u16>, b: u8) -> Option<u16>
+    ensures { result ≡ with_known_bit n b }
+{
+    let number = u64::from(n?);
+    still_known(true, b).then_some(with_bit(number, b) as u16)
+}
+
+fn bits(bytes: &[u8], n: Option<u16>) -> Option<Number>
     ensures { result ≡ more_bits n bytes.now }
 {
-    let Number {
-        mut known,
-        mut value,
-        ..
-    } = n;
+    let mut sum = n;
     for b in bytes {
         if !is_bit(*b) {
-            return not_number();
+            return None;
         }
-        value = with_bit(value, *b);
-        known = still_known(known, *b);
+        sum = with_known_bit(sum, *b);
     }
-    number_with(n.whole, known, n.over, value)
+    Some(Number::Binary(sum))
 }
 
 // ---- a word
 
 // The number after the first byte.
 #[tactic(auto, unfolding(crate::specs::Partial::begun_with))]
-fn begun(b: u8) -> Number
+fn begun(b: u8) -> Option<Number>
     ensures { result ≡ begun_with b }
 {
-    let value = if is_digit(b) { u64::from(b - b'0') } else { 0 };
-    number_with(true, true, false, value)
+    if is_binary(b) {
+        Some(Number::Binary(Some(0)))
+    } else if b == b'#' {
+        Some(Number::Decimal(Some(0)))
+    } else if is_digit(b) {
+        Some(Number::Decimal(Some(u64::from(b - b'0'))))
+    } else {
+        None
+    }
 }
 
-// Bytes added to a word that begins with a byte.
+// The number after more bytes.
 #[tactic(auto, unfolding(crate::specs::Partial::counted_of))]
-fn counted(first: u8, bytes: &[u8], n: Number) -> Number
-    ensures { result ≡ counted_of first n bytes.now }
+fn counted(bytes: &[u8], n: Option<Number>) -> Option<Number>
+    ensures { result ≡ counted_of n bytes.now }
 {
-    if !n.whole {
-        n
-    } else if is_binary(first) {
-        bits(bytes, n)
-    } else if first == b'#' || is_digit(first) {
-        digits(bytes, n)
-    } else {
-        n
+    match n? {
+        Number::Decimal(sum) => digits(bytes, sum),
+        Number::Binary(sum) => bits(bytes, sum),
     }
 }
 
@@ -210,15 +192,15 @@ fn extended(p: Partial, bytes: &[u8]) -> Partial
     let Spelled { high, low } = spell(bytes, p.high, p.low);
     let length = longer(p.length, bytes.len());
     if p.length == 0 {
-        let number = counted(*b, others, begun(*b));
+        let number = counted(others, begun(*b));
         partial_with(length, *b, high, low, number)
     } else {
-        let number = counted(p.first, bytes, p.number);
+        let number = counted(bytes, p.number);
         partial_with(length, p.first, high, low, number)
     }
 }
 
-fn partial_with(length: u16, first: u8, high: u64, low: u64, number: Number) -> Partial
+fn partial_with(length: u16, first: u8, high: u64, low: u64, number: Option<Number>) -> Partial
     ensures { result ≡ partial_with length first high low number }
 {
     Partial {

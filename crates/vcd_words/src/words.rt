@@ -65,10 +65,9 @@ fn definition(r: Reader, at: u64, p: Partial) -> Reader
 fn width(r: Reader, at: u64, p: Partial) -> Reader
     ensures { (w : List ℕ) → Keeps p w → result ≡ read_width r (word_with at w) }
 {
-    if marks::is_decimal(p) {
-        readers::at(readers::with_width(r, marks::width(p)), Place::Code)
-    } else {
-        readers::misread(r, Misreading::NotGrammar, at)
+    match marks::width(p) {
+        Some(width) => readers::at(readers::with_width(r, width), Place::Code),
+        None => readers::misread(r, Misreading::NotGrammar, at),
     }
 }
 
@@ -119,8 +118,8 @@ fn is_scalar(r: Reader, p: Partial) -> bool
 fn change(next: Place, code_next: Place, r: Reader, at: u64, p: Partial) -> Reader
     ensures { (w : List ℕ) → Keeps p w → result ≡ read_change next code_next r (word_with at w) }
 {
-    if marks::is_vector(p) {
-        readers::at(readers::with_vector(r, marks::vector(p)), code_next)
+    if let Some(vector) = marks::vector(p) {
+        readers::at(readers::with_vector(r, vector), code_next)
     } else if is_scalar(r, p) {
         let level = bit_value(p.first);
         readers::at(readers::with_value(r, Signal::Stb, level), next)
@@ -150,17 +149,14 @@ pub fn is_later(r: Reader, t: u64) -> bool
     !r.stamp.opened || r.stamp.time < t
 }
 
-#[tactic(auto, using(crate::proofs::Telling::time_value), unfolding(recording::specs::Reading::open_stamp))]
+#[tactic(auto, unfolding(recording::specs::Reading::open_stamp))]
 fn open_stamp(r: Reader, at: u64, p: Partial) -> Reader
     ensures { (w : List ℕ) → Keeps p w → starts_time w ≡ true → result ≡ open_stamp r (word_with at w) }
 {
-    let time = p.number.value;
-    if !marks::is_time(p) {
-        readers::misread(r, Misreading::NotGrammar, at)
-    } else if is_later(r, time) {
-        readers::with_time(r, time)
-    } else {
-        readers::misread(r, Misreading::NotRising, at)
+    match marks::time(p) {
+        None => readers::misread(r, Misreading::NotGrammar, at),
+        Some(time) if is_later(r, time) => readers::with_time(r, time),
+        Some(_) => readers::misread(r, Misreading::NotRising, at),
     }
 }
 

@@ -1,5 +1,5 @@
 -- `vcd_reader::changes::vector_at` meets its contract. Assumes nothing.
-use mathlib.Core.Path.{◌≡◌, ◌∙◌}
+use mathlib.Core.Path.{◌≡◌}
 use Rattle.std.proofs.Common.{ℕ, ◌<◌, Result, Ok, Err, Some, arith}
 use Rattle.std.specs.Result.{OkIff, result_ok}
 use Rattle.vcd_reader.proofs.Changing.{coded_vector}
@@ -13,5 +13,5 @@ is_byte (Err e) n k fits is = absurd cc
 pub returns : goal.returns
 returns c =
     let length = is_byte _ _ _ c.try_from.ensures c.in_ok-length.ensures.value in
-    coded_vector _ _ c.in_ok-bits.bits c.skip.result c.in_ok-c.c c.bits_vector.result _ c.in_ok-bits.ensures
-    (omega (arith, length.0)) c.skip.ensures c.in_ok-c.ensures (rw length.1 at c.bits_vector.ensures) c.skip-2.ensures
+    coded_vector _ _ c.in_ok-bits.bits c.skip.result c.in_ok-c.c c.vector_with.result _ c.in_ok-bits.ensures
+    (omega (arith, length.0)) c.skip.ensures c.in_ok-c.ensures (rw (length.1, c.kept_value.ensures) at c.vector_with.ensures) c.skip-2.ensures

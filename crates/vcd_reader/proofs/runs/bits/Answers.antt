@@ -9,19 +9,18 @@ pub returns-then-not-is_bit : goal.returns-then-not-is_bit
 returns-then-not-is_bit c =
     let l = c.loop-end in
     some_if (BitsThere _ _) _ c.then_some.ensures
-    (λ h. bits_there _ _ l.known l.number l.end _ l.invariant (sym c.is_end.ensures ∙ c.if-is_end.false)
+    (λ h. bits_there _ _ l.number l.end _ l.invariant (sym c.is_end.ensures ∙ c.if-is_end.false)
     (run_separator _ l.end c.loop-end-test.true (sym c.is_separator.ensures ∙ h)) refl)
 
 pub loop-end-preserved : goal.loop-end-preserved
 loop-end-preserved c =
     let l = c.loop-end in
-    bits_more _ _ l.known l.number l.end c.still_known-known.result c.with_bit-number.result
-    l.invariant c.loop-end-test.true (sym c.is_bit.ensures ∙ c.if-not-is_bit.false)
-    c.still_known-known.ensures c.with_bit-number.ensures
+    rw c.with_known_bit-number.ensures
+    (bits_more _ _ l.number l.end l.invariant c.loop-end-test.true (sym c.is_bit.ensures ∙ c.if-not-is_bit.false))
 
 pub returns : goal.returns
 returns c =
     let l = c.loop-end in
     let some = sym c.is_end.ensures ∙ c.if-is_end.false in
-    bits_there _ _ l.known l.number l.end _ l.invariant some (run_end _ l.end c.loop-end-test.false)
+    bits_there _ _ l.number l.end _ l.invariant some (run_end _ l.end c.loop-end-test.false)
     (at_last _ _ l.end l.invariant.inside some c.loop-end-test.false l.auto.end-end)

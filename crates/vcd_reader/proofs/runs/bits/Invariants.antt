@@ -3,4 +3,4 @@ use Rattle.vcd_reader.proofs.Reaching.{BitsTo}
 use Rattle.vcd_reader.proofs.runs.bits.Given as goal
 
 abbrev pub invariant-loop-end : goal.invariant-loop-end
-invariant-loop-end l = BitsTo l.text l.from l.known l.number l.end
+invariant-loop-end l = BitsTo l.text l.from l.number l.end

@@ -1,14 +1,16 @@
 -- `vcd_words::scanning::bits` meets its contract. Assumes nothing.
-use mathlib.Core.Path.{sym, ◌∙◌}
-use Rattle.std.proofs.Common.{arith}
-use Rattle.vcd_words.specs.Partial.{number_with}
+use Prim.Native.Nat.{ℕ}
+use mathlib.Core.Path.{sym, ap, ◌∙◌}
+use lib.ListN.{drop}
+use Rattle.std.proofs.Common.{◌+◌, Option, arith}
+use Rattle.vcd_words.specs.Partial.{more_bits}
 use Rattle.vcd_words.proofs.Numbers.{bits_more}
 use Rattle.vcd_words.proofs.scanning.bits.Goals as goal
 
 pub loop-b-preserved : goal.loop-b-preserved
 loop-b-preserved c =
-    let n = c.args.n in
+    let t = c.args.bytes.now in
     let l = c.loop-b in
-    bits_more c.args.bytes.now l.b-index (omega arith) (number_with n.whole l.known n.over l.value) c.with_bit-value.result
-    c.still_known-known.result (sym c.is_bit.ensures ∙ c.if-not-is_bit.false) c.still_known-known.ensures c.with_bit-value.ensures
+    ap (λ (n : Option ℕ). more_bits n (drop (l.b-index + 1) t)) c.with_known_bit-sum.ensures
+    ∙ bits_more t l.b-index (omega arith) l.sum (sym c.is_bit.ensures ∙ c.if-not-is_bit.false)
     ∙ l.invariant

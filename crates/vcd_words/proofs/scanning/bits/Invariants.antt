@@ -2,8 +2,8 @@
 -- number given. Assumes nothing.
 use mathlib.Core.Path.{◌≡◌}
 use lib.ListN.{drop}
-use Rattle.vcd_words.specs.Partial.{number_with, more_bits}
+use Rattle.vcd_words.specs.Partial.{more_bits}
 use Rattle.vcd_words.proofs.scanning.bits.Given as goal
 
 abbrev pub invariant-loop-b : goal.invariant-loop-b
-invariant-loop-b l = more_bits (number_with l.n.whole l.known l.n.over l.value) (drop l.b-index l.bytes) ≡ more_bits l.n l.bytes
+invariant-loop-b l = more_bits l.sum (drop l.b-index l.bytes) ≡ more_bits l.fn.n l.bytes

@@ -1,8 +1,8 @@
 -- `vcd_words::scanning::digits` meets its contract. Assumes nothing.
+use Prim.Native.Nat.{ℕ}
 use mathlib.Core.Path.{sym, ap, ◌∙◌}
 use lib.ListN.{drop}
-use Rattle.std.proofs.Common.{◌+◌, arith}
-use Rattle.vcd_words.specs.declared.Number.{Number}
+use Rattle.std.proofs.Common.{◌+◌, Option, arith}
 use Rattle.vcd_words.specs.Partial.{more_digits}
 use Rattle.vcd_words.proofs.Numbers.{digits_more}
 use Rattle.vcd_words.proofs.scanning.digits.Goals as goal
@@ -11,6 +11,6 @@ pub loop-b-preserved : goal.loop-b-preserved
 loop-b-preserved c =
     let t = c.args.bytes.now in
     let l = c.loop-b in
-    ap (λ (n : Number). more_digits n (drop (l.b-index + 1) t)) c.with_digit-sum.ensures
+    ap (λ (n : Option ℕ). more_digits n (drop (l.b-index + 1) t)) c.with_digit-sum.ensures
     ∙ digits_more t l.b-index (omega arith) l.sum (sym c.is_digit.ensures ∙ c.if-not-is_digit.false)
     ∙ l.invariant
