@@ -43,25 +43,27 @@ fn simulate_all(
 {
     let mut ranking = routine_steps::begin(state, active, holder);
     let mut counts = handovers::table_in(table);
-    let mut i = 0;
-    while i < list.len() {
+    let count = list.len() / COMMAND_SIZE;
+    for k in 0..count {
+        let i = COMMAND_SIZE * k;
         let at = decoding::word_at(list, i + 1);
         let read = call_of(list[i] as u16, at, decoding::word_at(list, i + 3));
         let Some(c) = read else {
-            break;
+            handovers::put_table(table, counts);
+            return k as u64;
         };
         let o = routine_steps::step(state, active, holder, &mut ranking, c);
         let (number, id, cycles) = routine_steps::numbers_of(o);
         encoding::put_answer(answers, i, number, id, cycles);
         let from = routine_steps::last_holder(o);
         if from.is_some() {
+            // Through a local: the borrow checker doesn't cover `counts = handovers::count(..)`, since counts is an array.
             let raised = handovers::count(counts, from, CoreId(at));
             counts = raised;
         }
-        i += COMMAND_SIZE;
     }
     handovers::put_table(table, counts);
-    (i / COMMAND_SIZE) as u64
+    count as u64
 }
 
 // A list of calls, 5 bytes each; an answer of 5 bytes for each. Handovers are counted on in the table, 32 rows of 32 numbers. A number
