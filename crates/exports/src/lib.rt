@@ -16,6 +16,7 @@ pub fn psic_make(n: u16, m: u16, state: &mut [u8]) -> u64
     }
     let made = commands::make(n, m);
     let answer = encoding::packed(made.number, made.id, made.cycles);
+    // A number in place of a `Result`: the statements over any behaviour (model/specs/Statements.antt) speak of `Answer`'s number.
     if made.number != 0 {
         return answer;
     }

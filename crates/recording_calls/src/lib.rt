@@ -1,6 +1,7 @@
 // The calls for hosts on recordings: the commands of a text with their times, and the replay of a text. Each is proved to write what its
 // definition in recording/specs/Calls.antt says and nothing else, on any bytes whatever. Buffers that don't fit are answered by 255, and
-// stay as they were. A text is read once, from one command to the next, and nothing of it is kept.
+// stay as they were. They answer a number in place of a `Result`, since C calls them (psic_c). A text is read once, from one command to
+// the next, and nothing of it is kept.
 #![tactic(auto)]
 
 ghost use Rattle.std.specs.Prelude.{◌≤◌, min, ◌≡◌, true, cond, length};
@@ -166,6 +167,7 @@ fn replay_all(n: u16, m: u16, text: &[u8], state: &mut [u8], answers: &mut [u8])
         (replay_call n m text.now state.old answers.old) }
 {
     let made = commands::make(n, m);
+    // A number in place of a `Result`: the statements over any behaviour (model/specs/Statements.antt) speak of `Answer`'s number.
     if made.number != 0 {
         return report_with(made.number, 0, 0);
     }

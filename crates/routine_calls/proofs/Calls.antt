@@ -65,15 +65,16 @@ module _ (b active holder : List ℕ) where
   call_unread c e = rw e (refl, refl, refl, refl)
 
   pub call_went :
-      (c : RoutineCall) {r n i y : ℕ} {o : Stepped} {b' active' holder' : List ℕ} {g' : Option Ranking} →
+      (c : RoutineCall) {r n i y : ℕ} {o : Stepped} {b' active' holder' b'' active'' holder'' : List ℕ} {g' : Option Ranking} →
       is_simulation b active holder ≡ true → Went (routines_in b active holder) c o b' active' holder' g' →
-      OutcomeSays (outcome_in o) n i y → r ≡ packed_as n i y → DoesCall r b' active' holder' (routine_call c b active holder)
+      OutcomeSays (outcome_in o) n i y → r ≡ packed_as n i y → b'' ≡ b' → active'' ≡ active' → holder'' ≡ holder' →
+      DoesCall r b'' active'' holder'' (routine_call c b active holder)
   unfolding routine_call
-  call_went c {r} {o = o} {b'} {active'} {holder'} e went told er =
+  call_went c {r} {o = o} {b'} {active'} {holder'} e went told er eb ea eh =
       let s = routines_in b active holder in
       let (number_is, id_is, cycles_are) = says_same (outcome_in o) told went.says.0 in
       let is : Routines → Type 0 = λ x. (b' ≡ state_bytes x.controller) × (active' ≡ x.active) × (holder' ≡ x.holder) in
       let result : r ≡ packed_call (call_routine s c) = er ∙ rw (number_is, id_is, cycles_are) refl in
       let (bytes, actives, holders) : is (call_routine s c).state
       = subst is went.state_is (went.running.whole, refl, refl) in
-      rw e (result, bytes, actives, holders)
+      rw e (result, eb ∙ bytes, ea ∙ actives, eh ∙ holders)

@@ -1,6 +1,7 @@
 // The calls for hosts on a simulation of the interrupt routines, in C's memory: the bytes of the controller's state, and beside them the
 // active ids and the last holders as numbers. Each is proved to answer and to write what its definition in routines/specs/Calls.antt
-// says and nothing else, whatever it is lent. What can't be read is answered by 255, and every buffer stays as it was.
+// says and nothing else, whatever it is lent. What can't be read is answered by 255, and every buffer stays as it was. They answer
+// numbers in place of a `Result`, and take three slices in place of a `Memory`, since C calls them (psic_c).
 #![tactic(auto)]
 
 ghost use Rattle.std.specs.Prelude.{◌≡◌};
@@ -10,6 +11,7 @@ ghost use Rattle.routines.specs.declared.RoutineCall.TheVariants.{Enter, Exit};
 
 use layout::{STATE_SIZE, UNREADABLE};
 use model::{CORES, CoreId, SOURCES};
+use routine_steps::Memory;
 use routines::RoutineCall;
 
 // A fresh simulation of n sources and m cores. Sizes out of range are refused by 2, and the memory stays as it was.
@@ -27,6 +29,7 @@ pub fn psic_make_routines(
         return UNREADABLE;
     }
     let made = commands::make(n, m);
+    // A number in place of a `Result`: the statements over any behaviour (model/specs/Statements.antt) speak of `Answer`'s number.
     if made.number != 0 {
         return made.number as u64;
     }
@@ -46,7 +49,12 @@ fn called(state: &mut [u8], active: &mut [u16], holder: &mut [u16], c: RoutineCa
         return UNREADABLE;
     }
     let mut ranking = routine_steps::begin(state, active, holder);
-    let o = routine_steps::step(state, active, holder, &mut ranking, c);
+    let mut memory = Memory {
+        state,
+        active,
+        holder,
+    };
+    let o = memory.step(&mut ranking, c);
     let (number, id, cycles) = routine_steps::numbers_of(o);
     encoding::packed(number, id, cycles)
 }

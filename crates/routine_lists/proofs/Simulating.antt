@@ -177,15 +177,15 @@ module _ (b active holder list answers table : List ℕ) where
 
   pub simulate_done :
       fits_simulate b active holder list answers table ≡ true →
-      {r : ℕ} {b' active' holder' answers' table' : List ℕ} {counts : Handovers} →
-      Ran read_call routines_machine list answers (counting (routines_in b active holder) (table_in table)) r answers'
-      (counting (routines_in b' active' holder') counts) →
-      b' ≡ state_bytes (routines_in b' active' holder').controller → table' ≡ table_words counts →
-      DoesSimulate r b' active' holder' answers' table' (simulate_call b active holder list answers table)
+      {count r : ℕ} {b' active' holder' b'' active'' holder'' answers' table' : List ℕ} {counts : Handovers} →
+      Ran read_call routines_machine list answers (counting (routines_in b active holder) (table_in table)) count answers'
+      (counting (routines_in b' active' holder') counts) → r ≡ count →
+      b' ≡ state_bytes (routines_in b' active' holder').controller → table' ≡ table_words counts → b'' ≡ b' → active'' ≡ active' →
+      holder'' ≡ holder' → DoesSimulate r b'' active'' holder'' answers' table' (simulate_call b active holder list answers table)
   unfolding simulate_call
-  simulate_done e ran whole et =
+  simulate_done e ran counted whole et eb ea eh =
       let end = ap (λ (x : Counting). x.routines) ran.state in
       let bytes = whole ∙ ap (λ (x : Routines). state_bytes x.controller) end in
       let actives = ap (λ (x : Routines). x.active) end in
       let holders = ap (λ (x : Routines). x.holder) end in
-      rw e ((ran.count, bytes, actives, holders), ran.written, et ∙ ap (λ (x : Counting). table_words x.table) ran.state)
+      rw e ((counted ∙ ran.count, eb ∙ bytes, ea ∙ actives, eh ∙ holders), ran.written, et ∙ ap (λ (x : Counting). table_words x.table) ran.state)

@@ -1,6 +1,6 @@
 // The call for hosts on a list of the interrupt routines' calls, with the handovers counted. It is proved to answer and to write what its
 // definition in routines/specs/Calls.antt says and nothing else, whatever it is lent. What can't be read or doesn't fit is answered by
-// 2^64 - 1, and every buffer stays as it was.
+// 2^64 - 1, and every buffer stays as it was. It answers a number in place of a `Result`, since C calls it (psic_c).
 #![tactic(auto)]
 
 ghost use Rattle.std.specs.Prelude.{◌≡◌, true};
@@ -8,6 +8,7 @@ ghost use Rattle.routines.specs.Calls.{call_of, DoesSimulate, fits_simulate, sim
 
 use layout::{COMMAND_SIZE, NO_COUNT};
 use model::{CORES, CoreId, SourceId};
+use routine_steps::Memory;
 use routines::{DirectAction, RoutineCall};
 
 // The call that three numbers name: a command by its own number, entry by 16, exit by 17.
@@ -42,26 +43,33 @@ fn simulate_all(
         table.old) }
 {
     let mut ranking = routine_steps::begin(state, active, holder);
+    let mut memory = Memory {
+        state,
+        active,
+        holder,
+    };
     let mut counts = handovers::table_in(table);
-    let mut i = 0;
-    while i < list.len() {
+    let count = list.len() / COMMAND_SIZE;
+    for k in 0..count {
+        let i = COMMAND_SIZE * k;
         let at = decoding::word_at(list, i + 1);
         let read = call_of(list[i] as u16, at, decoding::word_at(list, i + 3));
         let Some(c) = read else {
-            break;
+            handovers::put_table(table, counts);
+            return k as u64;
         };
-        let o = routine_steps::step(state, active, holder, &mut ranking, c);
+        let o = memory.step(&mut ranking, c);
         let (number, id, cycles) = routine_steps::numbers_of(o);
         encoding::put_answer(answers, i, number, id, cycles);
         let from = routine_steps::last_holder(o);
         if from.is_some() {
+            // Through a local: the borrow checker doesn't cover `counts = handovers::count(..)`, since counts is an array.
             let raised = handovers::count(counts, from, CoreId(at));
             counts = raised;
         }
-        i += COMMAND_SIZE;
     }
     handovers::put_table(table, counts);
-    (i / COMMAND_SIZE) as u64
+    count as u64
 }
 
 // A list of calls, 5 bytes each; an answer of 5 bytes for each. Handovers are counted on in the table, 32 rows of 32 numbers. A number

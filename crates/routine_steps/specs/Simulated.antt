@@ -2,6 +2,8 @@
 --   taken_from s c        the last holder, plus one, of the request that the call c takes, if it is an accepted entry; else 0
 --   outcome_in r, from_in r    what is answered besides that holder, and that holder, plus one, 0 for none
 --   Says r a from        what is answered besides the simulation
+--   simulation_in m      the simulation that the memory m holds
+--   Same m m'            m' is lent from the same host's memory as m
 --   Standing b ..        the memory holds a sound simulation, with the numbers of its cores and sources
 --   Did s c r b' ..      the call c on s has answered r, and the memory holds what it leaves
 --   Running g b ..       a list's simulation between two calls; g are its numbers, if the test says that it is sound, and else none
@@ -20,6 +22,7 @@ use Rattle.routines.specs.declared.RoutineAnswer.{RoutineAnswer}
 use Rattle.routines.specs.Routines.{holder_number, sound_routines, SoundRoutines, call_refusal, call_routine, box_holder}
 use Rattle.routines.specs.Calls.{routines_in}
 use Rattle.routine_steps.specs.declared.AcceptedCall.{AcceptedCall}
+use Rattle.routine_steps.specs.declared.Memory.{Memory}
 
 abbrev pub taken_from : Routines → RoutineCall → ℕ
 taken_from s (Direct id a) = 0
@@ -39,6 +42,13 @@ from_in (Err e) = 0
 
 abbrev pub Says : Stepped → RoutineAnswer → ℕ → Type 0
 Says r a from = OutcomeSays (outcome_in r) a.number a.id.0 a.cycles × (from_in r ≡ from)
+
+abbrev pub simulation_in : Memory → Routines
+simulation_in m = routines_in m.state.now m.active.now m.holder.now
+
+abbrev pub Same : Memory → Memory → Type 0
+Same m m' =
+    (m'.state.ghost_name ≡ m.state.ghost_name) × (m'.active.ghost_name ≡ m.active.ghost_name) × (m'.holder.ghost_name ≡ m.holder.ghost_name)
 
 pub record Standing (b active holder : List ℕ) (g : Ranking) : Type 0 where
   pub held : Held (state_from b) b g

@@ -2,13 +2,12 @@
 // simulation sound, and refuses an unsound one by 1, which leaves it as it was.
 #![tactic(auto)]
 
-ghost use Rattle.std.specs.Prelude.{◌<◌, ◌≡◌, true, length};
+ghost use Rattle.std.specs.Prelude.{◌<◌, ◌≡◌, true, length, is_some};
 ghost use Rattle.model.specs.Records.{max_sources, max_cores};
 ghost use Rattle.layout.specs.Bytes.{is_state, state_from};
 ghost use Rattle.in_place.specs.Steps.{cycles_in, Says, Ready, Leaves};
 ghost use Rattle.routines.specs.Routines.{holder_number, hand_back, holder_after};
-ghost use Rattle.routines.specs.Calls.{routines_in};
-ghost use Rattle.routine_steps.specs.Simulated.{outcome_in, from_in, Standing, Did, Running, Went};
+ghost use Rattle.routine_steps.specs.Simulated.{outcome_in, from_in, simulation_in, Same, Standing, Did, Running, Went};
 
 use in_place::{Outcome, Ranking};
 use model::{Accepted, CoreAction, CoreId, Refusal, SourceAction, SourceId};
@@ -67,24 +66,6 @@ fn hold_after(holder: &mut [u16], a: DirectAction, i: usize)
     }
 }
 
-// A command on a source. An accepted trigger makes a request that nobody has held.
-fn command(
-    state: &mut [u8],
-    active: &[u16],
-    holder: &mut [u16],
-    ranking: &mut Ranking,
-    id: SourceId,
-    a: DirectAction,
-) -> Stepped
-    requires { Standing state.old active.now holder.old ranking.old }
-    ensures { Did (routines_in state.old active.now holder.old) (RoutineCall.Direct id a) result
-        state.new active.now holder.new ranking.new }
-{
-    let accepted = source_steps::on_source(state, ranking, id, a.into())?;
-    hold_after(holder, a, id.0 as usize - 1);
-    Ok(after(accepted.cycles))
-}
-
 // Listing 1, `if (prev != 0) cpu.redeliver(prev)`. Document 01 has id 0 for none, and so have the words of the active ids in memory.
 fn hand_back(state: &mut [u8], ranking: &mut Ranking, interrupted: u16) -> Outcome
     requires { Ready state.old ranking.old }
@@ -102,35 +83,6 @@ fn hand_back(state: &mut [u8], ranking: &mut Ranking, interrupted: u16) -> Outco
     )
 }
 
-// Listing 1, entry: claim, redeliver what was interrupted, and make the claimed request active. It is refused as its claim is.
-fn enter(
-    state: &mut [u8],
-    active: &mut [u16],
-    holder: &mut [u16],
-    ranking: &mut Ranking,
-    core: CoreId,
-) -> Stepped
-    requires { Standing state.old active.old holder.old ranking.old }
-    ensures { Did (routines_in state.old active.old holder.old) (RoutineCall.Enter core) result
-        state.new active.new holder.new ranking.new }
-{
-    let claimed = core_steps::on_core(state, ranking, core, CoreAction::Claim)?;
-    let k = core.0 as usize;
-    let back = hand_back(state, ranking, active[k]);
-    let id = claimed.id;
-    let i = id.0 as usize - 1;
-    let from = holder_from(holder[i]);
-    active[k] = id.0;
-    holder[i] = core.0 + 1;
-    Ok(AcceptedCall {
-        accepted: Accepted {
-            id,
-            cycles: claimed.cycles + cycles_of(back),
-        },
-        from,
-    })
-}
-
 // The cycles of a command that the routines give beside others: of its refusal they make nothing.
 fn cycles_of(o: Outcome) -> u16
     ensures { result ≡ cycles_in o }
@@ -138,33 +90,7 @@ fn cycles_of(o: Outcome) -> u16
     o.map_or(0, |accepted| accepted.cycles)
 }
 
-// Listing 1, exit: complete the active request, and set the core to 0.
-fn exit(
-    state: &mut [u8],
-    active: &mut [u16],
-    holder: &[u16],
-    ranking: &mut Ranking,
-    core: CoreId,
-) -> Stepped
-    requires { Standing state.old active.old holder.now ranking.old }
-    ensures { Did (routines_in state.old active.old holder.now) (RoutineCall.Exit core) result
-        state.new active.new holder.now ranking.new }
-{
-    if !checks::names_core(in_place::cores_in(state), core) {
-        return Err(Refusal::BadCore);
-    }
-    let k = core.0 as usize;
-    let id = active[k];
-    if id == 0 {
-        return Err(Refusal::NotClaimed);
-    }
-    let completed = source_steps::on_source(state, ranking, SourceId(id), SourceAction::Complete);
-    let lowered = core_steps::on_core(state, ranking, core, CoreAction::SetCorePriority(0));
-    active[k] = 0;
-    Ok(after(cycles_of(completed) + cycles_of(lowered)))
-}
-
-// The numbers of the cores and sources of a simulation, if it is sound.
+// The numbers of the cores and sources of a simulation, if it is sound. It takes three slices, as the test does.
 pub fn begin(state: &[u8], active: &[u16], holder: &[u16]) -> Option<Ranking>
     requires { (is_state state.now ≡ true) × (length active.now ≡ max_cores) × (length holder.now ≡ max_sources) }
     ensures { Running result state.now active.now holder.now }
@@ -177,25 +103,98 @@ pub fn begin(state: &[u8], active: &[u16], holder: &[u16]) -> Option<Ranking>
     Some(ranking)
 }
 
-// One call, on a simulation of which `begin` has answered.
-#[inline(always)]
-pub fn step(
-    state: &mut [u8],
-    active: &mut [u16],
-    holder: &mut [u16],
-    ranking: &mut Option<Ranking>,
-    c: RoutineCall,
-) -> Stepped
-    requires { Running ranking.old state.old active.old holder.old }
-    ensures { Went (routines_in state.old active.old holder.old) c result
-        state.new active.new holder.new ranking.new }
-{
-    let Some(ranking) = ranking else {
-        return Err(Refusal::Malformed);
-    };
-    match c {
-        RoutineCall::Direct(id, a) => command(state, active, holder, ranking, id, a),
-        RoutineCall::Enter(core) => enter(state, active, holder, ranking, core),
-        RoutineCall::Exit(core) => exit(state, active, holder, ranking, core),
+// A simulation in a host's memory: the controller's state in its bytes, the active id of each core and the last holder of each request.
+#[derive(Drop)]
+pub struct Memory<'a> {
+    pub state: &'a mut [u8],
+    pub active: &'a mut [u16],
+    pub holder: &'a mut [u16],
+}
+
+impl Memory<'_> {
+    // A command on a source. An accepted trigger makes a request that nobody has held.
+    fn command(&mut self, ranking: &mut Ranking, id: SourceId, a: DirectAction) -> Stepped
+        requires { Standing self.old.state.now self.old.active.now self.old.holder.now ranking.old }
+        ensures same { Same self.old self.new }
+        ensures did { Did (simulation_in self.old) (RoutineCall.Direct id a) result
+            self.new.state.now self.new.active.now self.new.holder.now ranking.new }
+    {
+        let accepted = source_steps::on_source(self.state, ranking, id, a.into())?;
+        hold_after(self.holder, a, id.0 as usize - 1);
+        Ok(after(accepted.cycles))
+    }
+
+    // Listing 1, entry: claim, redeliver what was interrupted, and make the claimed request active. It is refused as its claim is.
+    fn enter(&mut self, ranking: &mut Ranking, core: CoreId) -> Stepped
+        requires { Standing self.old.state.now self.old.active.now self.old.holder.now ranking.old }
+        ensures same { Same self.old self.new }
+        ensures did { Did (simulation_in self.old) (RoutineCall.Enter core) result
+            self.new.state.now self.new.active.now self.new.holder.now ranking.new }
+    {
+        let claimed = core_steps::on_core(self.state, ranking, core, CoreAction::Claim)?;
+        let k = core.0 as usize;
+        let interrupted = self.active[k];
+        let back = hand_back(self.state, ranking, interrupted);
+        let id = claimed.id;
+        let i = id.0 as usize - 1;
+        let from = holder_from(self.holder[i]);
+        self.active[k] = id.0;
+        self.holder[i] = core.0 + 1;
+        Ok(AcceptedCall {
+            accepted: Accepted {
+                id,
+                cycles: claimed.cycles + cycles_of(back),
+            },
+            from,
+        })
+    }
+
+    // Listing 1, exit: complete the active request, and set the core to 0.
+    fn exit(&mut self, ranking: &mut Ranking, core: CoreId) -> Stepped
+        requires { Standing self.old.state.now self.old.active.now self.old.holder.now ranking.old }
+        ensures same { Same self.old self.new }
+        ensures did { Did (simulation_in self.old) (RoutineCall.Exit core) result
+            self.new.state.now self.new.active.now self.new.holder.now ranking.new }
+    {
+        // Lent apart: of a field that is lent as a `&`, the generated proof keeps only the length.
+        let state = &mut *self.state;
+        let active = &mut *self.active;
+        if !checks::names_core(in_place::cores_in(state), core) {
+            return Err(Refusal::BadCore);
+        }
+        let k = core.0 as usize;
+        let id = active[k];
+        // A word of the host's memory has 0 for none.
+        if id == 0 {
+            return Err(Refusal::NotClaimed);
+        }
+        let completed = source_steps::on_source(
+            state,
+            ranking,
+            SourceId(id),
+            SourceAction::Complete,
+        );
+        let lowered = core_steps::on_core(state, ranking, core, CoreAction::SetCorePriority(0));
+        active[k] = 0;
+        Ok(after(cycles_of(completed) + cycles_of(lowered)))
+    }
+
+    // One call, on a simulation of which `begin` has answered.
+    #[inline(always)]
+    pub fn step(&mut self, ranking: &mut Option<Ranking>, c: RoutineCall) -> Stepped
+        requires { Running ranking.old self.old.state.now self.old.active.now self.old.holder.now }
+        ensures same { Same self.old self.new }
+        ensures went { Went (simulation_in self.old) c result
+            self.new.state.now self.new.active.now self.new.holder.now ranking.new }
+        ensures kept { is_some ranking.new ≡ is_some ranking.old }
+    {
+        let Some(ranking) = ranking else {
+            return Err(Refusal::Malformed);
+        };
+        match c {
+            RoutineCall::Direct(id, a) => self.command(ranking, id, a),
+            RoutineCall::Enter(core) => self.enter(ranking, core),
+            RoutineCall::Exit(core) => self.exit(ranking, core),
+        }
     }
 }

@@ -1,4 +1,5 @@
-// The test of a simulation in a host's memory: the controller's state in its bytes, beside it the active ids and the last holders.
+// The test of a simulation in a host's memory: the controller's state in its bytes, beside it the active ids and the last holders. It
+// takes three slices and no struct of them, as `routine_steps::Memory`, since that would ask a caller who only tests for `&mut`s.
 #![tactic(auto)]
 
 ghost use Rattle.std.specs.Prelude.{◌<◌, ◌≡◌, length};
@@ -23,6 +24,7 @@ fn core_stands(state: &[u8], active: &[u16], holder: &[u16], n: u16, m: usize, k
     ensures { result ≡ core_stands (routines_in state.now active.now holder.now) k }
 {
     let c = decoding::core_at(state, k);
+    // A word of the host's memory has 0 for none.
     let id = active[k];
     if id == 0 {
         return c.configured == 0;
@@ -43,6 +45,7 @@ fn source_stands(state: &[u8], active: &[u16], holder: &[u16], n: u16, m: usize,
     requires { Sizes state.now active.now holder.now n m × (i < max_sources) }
     ensures { result ≡ source_stands (routines_in state.now active.now holder.now) i }
 {
+    // The last holder's number plus one: a word of the host's memory has 0 for none.
     let h = usize::from(holder[i]);
     if m < h {
         return false;

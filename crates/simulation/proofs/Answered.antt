@@ -16,13 +16,13 @@ use Rattle.in_place.proofs.Refused.{says_same}
 use Rattle.routine_steps.specs.Simulated.{Stepped, outcome_in, Went}
 
 pub answered :
-    {s : Routines} {after : Controller} (b : List ℕ) {b' active' holder' : List ℕ} {g' : Option Ranking} {o : Stepped} {n i y : ℕ}
+    {s : Routines} {after : Controller} (b : List ℕ) {b' active' holder' active'' holder'' : List ℕ} {g' : Option Ranking} {o : Stepped} {n i y : ℕ}
     (c : RoutineCall) → routines_in b s.active s.holder ≡ s → Went (routines_in b s.active s.holder) c o b' active' holder' g' →
-    OutcomeSays (outcome_in o) n i y → after ≡ state_from b' →
-    routine_answer (routines_with after active' holder') n i y ≡ call_routine s c
-answered {s} {after} b {b'} {active'} {holder'} {o = o} c back went told read =
+    OutcomeSays (outcome_in o) n i y → after ≡ state_from b' → active'' ≡ active' → holder'' ≡ holder' →
+    routine_answer (routines_with after active'' holder'') n i y ≡ call_routine s c
+answered {s} {after} b {b'} {active'} {holder'} {o = o} c back went told read ea eh =
     let a : RoutineAnswer = call_routine (routines_in b s.active s.holder) c in
     let (number_is, id_is, cycles_are) = says_same (outcome_in o) told went.says.0 in
     let whole : routines_with after active' holder' ≡ a.state
     = ap (λ (x : Controller). routines_with x active' holder') read ∙ went.state_is in
-    rw (whole, number_is, id_is, cycles_are) (ap (λ (x : Routines). call_routine x c) back)
+    rw (ea, eh, whole, number_is, id_is, cycles_are) (ap (λ (x : Routines). call_routine x c) back)

@@ -7,6 +7,7 @@ ghost use Rattle.routines.specs.Routines.{make_routines, call_routine};
 
 use layout::STATE_SIZE;
 use model::{CORES, SOURCES, SourceId};
+use routine_steps::Memory;
 use routines::{RoutineAnswer, RoutineCall, Routines};
 
 // A fresh simulation, or 2 with the fresh one of sizes (1, 1).
@@ -38,13 +39,12 @@ pub fn call(s: Routines, c: RoutineCall) -> RoutineAnswer
     let mut bytes = [0u8; STATE_SIZE];
     encoding::put_state(&mut bytes[..], controller);
     let mut ranking = routine_steps::begin(&bytes[..], &active[..], &holder[..]);
-    let o = routine_steps::step(
-        &mut bytes[..],
-        &mut active[..],
-        &mut holder[..],
-        &mut ranking,
-        c,
-    );
+    let mut memory = Memory {
+        state: &mut bytes[..],
+        active: &mut active[..],
+        holder: &mut holder[..],
+    };
+    let o = memory.step(&mut ranking, c);
     let (number, id, cycles) = routine_steps::numbers_of(o);
     let after = decoding::state_from(&bytes[..]);
     let state = Routines {

@@ -1,49 +1,58 @@
 -- A turn takes the call that its bytes name, and the table counts its handover; where the loop ends, no call is left or none is named.
 use lib.ListN.{get_or}
-use mathlib.Core.Path.{◌≡◌, sym, ap, ◌∙◌}
+use Rattle.std.proofs.Common.{◌≡◌, ◌+◌, ◌*◌, arith, rules, sym, ap, ◌∙◌}
+use Rattle.layout.specs.Bytes.{command_size}
 use Rattle.layout.proofs.Fives.{fives_read}
 use Rattle.layout.proofs.Lists.{run_end, run_stop}
 use Rattle.routines.specs.Routines.{table_after}
-use Rattle.routines.specs.Calls.{one_call, routines_in}
+use Rattle.routines.specs.Calls.{one_call}
+use Rattle.routine_steps.specs.Simulated.{simulation_in}
 use Rattle.routine_lists.proofs.Simulating.{read_call, kept_by, raised_by, count_fits, simulate_more, simulate_done}
 use Rattle.routine_lists.proofs.simulate_all.Goals as goal
-use Rattle.routine_lists.proofs.simulate_all.Goals.{then-is_some, else-is_some, else-loop-i-test, then-loop-i-test+in_default}
+use Rattle.routine_lists.proofs.simulate_all.Goals.{then-is_some, else-is_some}
 
 -- a handover that is counted has its place in the table
 pub count-raised-requires : goal.count-raised-requires
 count-raised-requires c =
-    let l = c.loop-i in
+    let l = c.loop-k in
     let named = sym c.call_of-read.ensures ∙ c.in-Some.is in
-    count_fits l.state l.counts (get_or c.args.list.now l.i 0) c.word_at-at.result c.word_at.result named c.step-o.ensures c.last_holder-from.result c.last_holder-from.ensures (sym c.is_some.ensures ∙ c.if-is_some.true)
+    count_fits l.memory.state.now l.counts (get_or c.args.list.now (command_size * l.k) 0) c.word_at-at.result c.word_at.result named c.step-o.ensures.went c.last_holder-from.result c.last_holder-from.ensures (sym c.is_some.ensures ∙ c.if-is_some.true)
 
-pub loop-i-preserved : goal.loop-i-preserved
-loop-i-preserved c =
-    let l = c.loop-i in
-    let number = get_or c.args.list.now l.i 0 in
+pub loop-k-preserved : goal.loop-k-preserved
+loop-k-preserved c =
+    let l = c.loop-k in
+    let i = command_size * l.k in
+    let number = get_or c.args.list.now i 0 in
     let at = c.word_at-at.result in
     let p = c.word_at.result in
     let named = sym c.call_of-read.ensures ∙ c.in-Some.is in
-    let read = fives_read read_call c.args.list.now l.i c.word_at-at.ensures c.word_at.ensures (ap one_call named) in
-    let counted : c.if-is_some.counts ≡ table_after l.counts (routines_in l.state l.active l.holder) c.in-Some.c =
+    let read = fives_read read_call c.args.list.now i c.word_at-at.ensures c.word_at.ensures (ap one_call named) in
+    let counted : c.if-is_some.counts ≡ table_after l.counts (simulation_in l.memory) c.in-Some.c =
     elim c.if-is_some.branch [
       | then-is_some w ↦
-          raised_by l.state l.counts number at p named c.step-o.ensures c.last_holder-from.result c.last_holder-from.ensures (sym c.is_some.ensures ∙ w.if-is_some.true) (w.counts-is ∙ w.count-raised.ensures)
-      | else-is_some w ↦ kept_by l.state l.counts number at p named c.step-o.ensures c.last_holder-from.result c.last_holder-from.ensures (sym c.is_some.ensures ∙ w.if-is_some.false) w.counts-is
-    ] in (
-      simulate_more l.state l.invariant.0 c.loop-i-test.true read c.step-o.ensures c.numbers_of-number.ensures c.put_answer.ensures counted,
-      c.step-o.ensures.running,
+          raised_by l.memory.state.now l.counts number at p named c.step-o.ensures.went c.last_holder-from.result c.last_holder-from.ensures (sym c.is_some.ensures ∙ w.if-is_some.true) (w.counts-is ∙ w.count-raised.ensures)
+      | else-is_some w ↦ kept_by l.memory.state.now l.counts number at p named c.step-o.ensures.went c.last_holder-from.result c.last_holder-from.ensures (sym c.is_some.ensures ∙ w.if-is_some.false) w.counts-is
+    ] in
+    let next : i + command_size ≡ command_size * (l.k + 1) = omega arith in (
+      rw next at (simulate_more l.memory.state.now l.invariant.0 (omega arith) read c.step-o.ensures.went c.numbers_of-number.ensures c.put_answer.ensures counted),
+      c.step-o.ensures.went.running,
+      search rules,
     )
 
+-- the next bytes name no call
+pub returns-in_default : goal.returns-in_default
+returns-in_default c =
+    let a = c.args in
+    let l = c.loop-k in
+    let read = fives_read read_call a.list.now (command_size * l.k) c.word_at-at.ensures c.word_at.ensures
+    (ap one_call (sym c.call_of-read.ensures ∙ c.in_default.is)) in
+    simulate_done a.state.now a.active.now a.holder.now a.list.now a.answers.now a.table.now c.requires
+    (run_stop l.invariant.0 (omega arith) read) (omega arith) l.invariant.1.whole c.put_table.ensures (search rules) (search rules) (search rules)
+
+-- the list has ended
 pub returns : goal.returns
 returns c =
     let a = c.args in
-    let l = c.loop-i in
+    let l = c.loop-k in
     simulate_done a.state.now a.active.now a.holder.now a.list.now a.answers.now a.table.now c.requires
-    (elim c.loop-i-test.branch [
-      | else-loop-i-test w ↦ run_end l.invariant.0 w.loop-i-test.false
-      | then-loop-i-test+in_default w ↦
-          run_stop l.invariant.0 w.loop-i-test.true
-          (fives_read read_call a.list.now l.i w.word_at-at.ensures w.word_at.ensures
-          (ap one_call (sym w.call_of-read.ensures ∙ w.in_default.is)))
-    ])
-    l.invariant.1.whole c.put_table.ensures
+    (run_end l.invariant.0 (omega arith)) (omega arith) l.invariant.1.whole c.put_table-2.ensures (search rules) (search rules) (search rules)

@@ -27,4 +27,5 @@ returns c =
     let sized : Sized s.controller = record { sources = search (rules, unmapped); cores = search (rules, unmapped) } in
     let same : state_from c.put_state.new.b ≡ s.controller = ap state_from c.put_state.ensures ∙ state_read_back s.controller sized in
     let back : routines_in c.put_state.new.b s.active s.holder ≡ s = rw same refl in
-    answered c.put_state.new.b c.args.c back c.step-o.ensures c.numbers_of-number.ensures c.state_from-after.ensures
+    answered c.put_state.new.b c.args.c back c.step-o.ensures.went c.numbers_of-number.ensures
+    (c.state_from-after.ensures ∙ ap state_from (search rules)) (search rules) (search rules)
