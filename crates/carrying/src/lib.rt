@@ -59,6 +59,9 @@ pub const CARRIED_SIZE: usize = BYTES_AT + MOST_KEPT;
 
 // ---- numbers
 
+// One function for both widths would need a trait of its own over from_le_bytes and to_le_bytes, which std has for each type alone: no
+// plainer than a line for each. All take the bytes and an offset, as the definitions of recording/specs/Carrying.antt do.
+
 // The number of four bytes at i, as codes are.
 fn code_at(b: &[u8], i: usize) -> u32
     requires { i + 4 ≤ length b.now }

@@ -77,6 +77,7 @@ fn quiet_time(text: &[u8], from: usize, r: &Reader) -> Option<Timed>
 
 // ---- all of them
 
+// The place after a word that begins or ends a block.
 fn place_of(block: bool) -> Place
     ensures { result ≡ change_place block }
 {

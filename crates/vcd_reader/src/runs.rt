@@ -1,4 +1,6 @@
 // Words that begin at an offset, each byte read once. Each answers for the usual word, and leaves the others to vcd_words.
+// Text and offset stand apart, as in advance, which docs/THEOREMS.md names: what is answered is a further offset, and a struct of both that
+// is made anew for each would be no plainer.
 ghost use Rattle.std.specs.Prelude.{◌+◌, ◌≡◌, length, IfSome};
 ghost use Rattle.recording.specs.Words.{is_empty};
 ghost use Rattle.vcd_reader.specs.Runs.{word_from, BitsThere, CodeThere, TimeThere, Skips};

@@ -69,7 +69,7 @@ fn are_printable(bytes: &[u8]) -> bool
     bytes.iter().all(|b| b.is_ascii_graphic())
 }
 
-// The code that the lowest bytes of a number spell, 0 if they are none.
+// The code that the lowest bytes of a number spell, 0 if they are none, as code_of in recording/specs/Values.antt has it.
 pub fn code_of(length: u16, low: u64) -> u32
     ensures { (u : List ℕ) → Ends length low u → result ≡ code_of u }
 {

@@ -108,6 +108,7 @@ pub fn with_known_bit(n: Option<u16>, b: u8) -> Option<u16>
     still_known(true, b).then_some(with_bit(number, b) as u16)
 }
 
+// As digits, but with another test, step, type and variant: one loop that takes these four would be no plainer.
 fn bits(bytes: &[u8], n: Option<u16>) -> Option<Number>
     ensures { result ≡ more_bits n bytes.now }
 {

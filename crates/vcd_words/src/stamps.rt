@@ -7,6 +7,13 @@ use recording::{Read, Reader, Strobe, Value};
 
 const MAX_COMMANDS: u16 = 65535;
 
+// The commands that use core and prio, by their numbers.
+const SET_SOURCE_PRIORITY: u16 = 0;
+
+const SET_CORE_PRIORITY: u16 = 3;
+
+const CLAIM: u16 = 5;
+
 fn is_high(r: Reader) -> bool
     ensures { result ≡ is_high r }
 {
@@ -14,16 +21,17 @@ fn is_high(r: Reader) -> bool
     level.known && level.number == 1
 }
 
+// Asked in vcd_writer too, of a byte: neither crate stands on the other, and a third for these two lines would be no plainer.
 fn uses_core(c: u16) -> bool
     ensures { result ≡ uses_core c }
 {
-    c == 3 || c == 5
+    matches!(c, SET_CORE_PRIORITY | CLAIM)
 }
 
 fn uses_priority(c: u16) -> bool
     ensures { result ≡ uses_priority c }
 {
-    c == 0 || c == 3
+    matches!(c, SET_SOURCE_PRIORITY | SET_CORE_PRIORITY)
 }
 
 fn target(r: Reader) -> Value

@@ -1,4 +1,6 @@
 // What a word does at its place, and the end of the text.
+// The word's offset and what is kept of it go together, but word, which docs/THEOREMS.md names, takes them one by one: a struct that is
+// made there only to be taken apart in each function would be no plainer.
 ghost use Rattle.std.specs.Prelude.{ℕ, ◌≡◌, List, true};
 ghost use Rattle.recording.specs.Words.{word_with};
 ghost use Rattle.recording.specs.Reading.{is_body, expected as expected_of, skipping as skipping_of, is_skipped, read_definition, read_width};
