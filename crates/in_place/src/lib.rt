@@ -1,5 +1,8 @@
 // A state in a host's bytes: records are written where they lie, and with each of them the number that stands for its core or its source
 // in arbitration. Nothing else changes a number, so they are right after each store.
+// The bytes stand beside the numbers and not in one struct with them: decoding reads the bytes without the numbers, hosts lend them
+// apart, and `steps` has the numbers of a sound state alone. Their length and the indices stand in the contracts and not in types of
+// their own: docs/THEOREMS.md names these functions, and a narrower type would ask more of their callers.
 #![tactic(auto)]
 
 ghost use Rattle.std.specs.Prelude.{◌<◌, ◌≤◌, ◌≡◌, length, set};
@@ -35,7 +38,8 @@ impl Ranking {
     }
 }
 
-// The same as document 01's number, 0 for success, with the claimed id, 0 for none, and the cycles.
+// The same as document 01's number, 0 for success, with the claimed id, 0 for none, and the cycles. A function and no `From`, since
+// Result and the tuple are std's.
 pub fn numbers_of(o: Outcome) -> (u8, SourceId, u16)
     ensures { Says o result.0 result.1.0 result.2 }
 {
@@ -62,7 +66,7 @@ pub fn cores_in(state: &[u8]) -> u16
     decoding::word_at(state, 2)
 }
 
-// The record of source i + 1.
+// The record of source i + 1, and below that of core k: two functions and no trait, as the two of encoding that they call.
 pub fn put_source(state: &mut [u8], ranking: &mut Ranking, i: usize, r: Source)
     requires { (length state.old ≡ state_size) × (i < max_sources) }
     ensures { (state.new ≡ sets state.old (source_place i) (source_bytes r)) ×
