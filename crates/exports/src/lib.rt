@@ -1,6 +1,7 @@
 // The calls for hosts in C and Rust. Each is proved to write what its definition in layout/specs/Bytes.antt says and nothing else,
 // on any bytes whatever. Unreadable bytes and buffers that do not fit are answered by 255, or by 2^64 - 1 where the answer is a count,
-// and leave every buffer as it was. They answer numbers in place of a `Result`, since C calls them (psic_c).
+// and leave every buffer as it was. They answer numbers in place of a `Result`, since C calls them
+// (psic_c), and take sizes, lists and answers one by one, as C passes them.
 #![tactic(auto)]
 
 ghost use Rattle.layout.specs.Bytes.{Does, make_call, execute_call, DoesRun, run_call};

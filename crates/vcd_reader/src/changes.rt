@@ -36,7 +36,8 @@ fn takes_value(x: &mut Variable, v: Vector) -> bool
     fits
 }
 
-// The vector becomes the value of the variable with this code, if there is one and the vector isn't longer.
+// The vector becomes the value of the variable with this code, if there is one and the vector isn't longer. Code 0 is tested first: of an
+// arm for it the proof has no name to speak by.
 #[inline(never)]
 fn placed(vs: &mut Variables, code: u32, v: Vector) -> bool
     ensures taken { result ≡ true → Places vs.old code v vs.new }

@@ -44,7 +44,8 @@ pub fn turn(text: &[u8], at: usize, block: bool) -> Option<Turned>
     Some(Turned { end, block: true })
 }
 
-// The end of a definition that is skipped, which is that of its $end.
+// The end of a definition that is skipped, which is that of its $end. Beside `comment`, and not one function: the first word's test and
+// the place in the contract differ, and what is the same is one line.
 fn definition(text: &[u8], at: usize) -> Option<usize>
     ensures { IfSome result (λ end. PassedBy Definition text.now at end) }
 {
