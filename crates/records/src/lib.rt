@@ -193,14 +193,15 @@ pub fn one_to(top: u32, x: u16) -> bool
     x != 0 && u32::from(x) <= top
 }
 
-// The top priority, 2^(floor(log2 n) + 2) - 1; of no sources, 3.
+// The top priority, 2^(floor(log2 n) + 2) - 1, from the leading zeros of n, the form that document 01 names; of no sources, 3.
 pub fn top_priority(n: u16) -> u32
     ensures { result ≡ top_priority n }
 {
     if n == 0 {
         return 3;
     }
-    (1u32 << (n.ilog2() + 2)) - 1
+    let width = 17 - n.leading_zeros();
+    (1u32 << width) - 1
 }
 
 // The box's priority if the box is filled, else the configured one.
