@@ -79,12 +79,10 @@ pub fn state_from(b: &[u8]) -> Controller
     requires { length b.now ≡ state_size }
     ensures { result ≡ state_from b.now }
 {
-    Controller {
-        n: word_at(b, 0),
-        m: word_at(b, 2),
-        sources: array::from_fn(|i| source_at(b, i)),
-        cores: array::from_fn(|k| core_at(b, k)),
-    }
+    let mut s = records::reset(word_at(b, 0), word_at(b, 2));
+    s.sources = array::from_fn(|i| source_at(b, i));
+    s.cores = array::from_fn(|k| core_at(b, k));
+    s
 }
 
 // Whether the three flags of the source at i are flags.

@@ -10,8 +10,9 @@ unfolding state_from
 returns c =
     let b = c.args.b.now in
     rw (
+      c.reset-s.ensures,
       c.word_at.ensures,
       c.word_at-2.ensures,
-      made _ _ (source_of b) (λ i y q k. search rules) c.from_fn.result no_source max_sources c.from_fn.ensures.items,
-      made _ _ (core_of b) (λ i y q k. search rules) c.from_fn-2.result no_core max_cores c.from_fn-2.ensures.items,
+      made _ _ (source_of b) (λ i y q k. search rules) c.from_fn-s.result no_source max_sources c.from_fn-s.ensures.items,
+      made _ _ (core_of b) (λ i y q k. search rules) c.from_fn-s-2.result no_core max_cores c.from_fn-s-2.ensures.items,
     )
