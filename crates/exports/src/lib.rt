@@ -7,6 +7,7 @@
 ghost use Rattle.layout.specs.Bytes.{Does, make_call, execute_call, DoesRun, run_call};
 
 use layout::{COMMAND_SIZE, NO_COUNT, STATE_SIZE, UNREADABLE};
+use model::Refusal;
 
 // A fresh controller of n sources and m cores, written as bytes. Sizes out of range are refused by 2, and the buffer stays as it was.
 pub fn psic_make(n: u16, m: u16, state: &mut [u8]) -> u64
@@ -52,6 +53,8 @@ pub fn psic_run(state: &mut [u8], list: &[u8], answers: &mut [u8]) -> u64
         return NO_COUNT;
     }
     let mut ranking = steps::begin(state);
+    // A step asks this too; asked before the loop, it makes one of its own of the commands that an unsound state refuses.
+    let sound = ranking.is_some();
     let count = list.len() / COMMAND_SIZE;
     for k in 0..count {
         let i = COMMAND_SIZE * k;
@@ -63,7 +66,11 @@ pub fn psic_run(state: &mut [u8], list: &[u8], answers: &mut [u8]) -> u64
         let Some(c) = read else {
             return k as u64;
         };
-        let o = steps::step(state, &mut ranking, c);
+        let o = if sound {
+            steps::step(state, &mut ranking, c)
+        } else {
+            Err(Refusal::Malformed)
+        };
         let (number, id, cycles) = in_place::numbers_of(o);
         encoding::put_answer(answers, i, number, id, cycles);
     }

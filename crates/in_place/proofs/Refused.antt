@@ -1,13 +1,17 @@
 -- What is answered besides the state. A refused command leaves bytes and numbers as they were. Assumes nothing.
 --   says_same                              what an outcome says is one number, one id and one count of cycles
 --   refused                                a refusal answers its number
+--   none_here                              an Option without a value is None
 --   number_not_zero, number_of_pending     a refusal's number isn't 0, and 6 is that of one alone
 use Prim.Native.Nat.{ℕ}
 use mathlib.Core.Path.{◌≡◌, refl, sym, subst, ◌∙◌}
 use mathlib.Core.Logic.{◌≢◌}
 use mathlib.Core.List.{List}
 use native.Mathlib.Omega.{arith}
-use Rattle.std.proofs.Common.{Err}
+use mathlib.Core.Bool.{false}
+use Rattle.std.specs.Option.{is_some}
+use Rattle.std.proofs.Common.{Option, Some, None, Err}
+use Rattle.lists.proofs.Bools.{clash}
 use Rattle.model.specs.declared.Refusal.{Refusal}
 use Rattle.model.specs.declared.Refusal.TheVariants.{Malformed, BadSize, BadCore, BadSource, BadPriority, AlreadyPending, NothingToClaim}
 use Rattle.model.specs.declared.Refusal.TheVariants.{NotClaimed, PriorityInUse}
@@ -29,6 +33,10 @@ pub refused :
     {b : List ℕ} {g : Ranking} → Held (state_from b) b g → (d : Command) (r : Refusal) →
     answer (state_from b) (number_for r) 0 0 ≡ execute (state_from b) d → Executed b d (Err r) b g
 refused {b} {g} held d r e = subst (λ (y : Answer). Leaves y (Err r) b g) e (record { says = (refl, refl, refl); held = held })
+
+pub none_here : {A : Type 0} (r : Option A) → is_some r ≡ false → r ≡ None
+none_here None e = refl
+none_here (Some x) e = clash refl e
 
 pub number_not_zero : (r : Refusal) → number_for r ≢ 0
 number_not_zero Malformed = λ e. absurd (omega arith)
