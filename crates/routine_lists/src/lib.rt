@@ -7,7 +7,7 @@ ghost use Rattle.std.specs.Prelude.{◌≡◌, true};
 ghost use Rattle.routines.specs.Calls.{call_of, DoesSimulate, fits_simulate, simulate_call};
 
 use layout::{COMMAND_SIZE, NO_COUNT};
-use model::{CORES, CoreId, SourceId};
+use model::{CORES, CoreId, Refusal, SourceId};
 use routine_steps::Memory;
 use routines::{DirectAction, RoutineCall};
 
@@ -43,6 +43,8 @@ fn simulate_all(
         table.old) }
 {
     let mut ranking = routine_steps::begin(state, active, holder);
+    // A step asks this too; asked before the loop, it makes one of its own of the calls that an unsound simulation refuses.
+    let sound = ranking.is_some();
     let mut memory = Memory {
         state,
         active,
@@ -58,7 +60,11 @@ fn simulate_all(
             handovers::put_table(table, counts);
             return k as u64;
         };
-        let o = memory.step(&mut ranking, c);
+        let o = if sound {
+            memory.step(&mut ranking, c)
+        } else {
+            Err(Refusal::Malformed)
+        };
         let (number, id, cycles) = routine_steps::numbers_of(o);
         encoding::put_answer(answers, i, number, id, cycles);
         let from = routine_steps::last_holder(o);
