@@ -36,14 +36,18 @@ fn offer(state: &mut [u8], ranking: &mut Ranking, m: usize, i: usize, r: Source)
 }
 
 // Whether a filled box of the first m cores names the source.
+#[inline(never)]
 fn boxed(state: &[u8], m: usize, id: SourceId) -> bool
     requires { (length state.now ≡ state_size) × (m ≤ max_cores) }
     ensures { result ≡ boxed_in (state_from state.now).cores m id.0 }
 {
-    (0..m).any(|k| {
+    for k in 0..m {
         let held = decoding::core_at(state, k).message;
-        held.filled && held.source == id
-    })
+        if held.filled && held.source == id {
+            return true;
+        }
+    }
+    false
 }
 
 // Whether the request of a source, whose record is r, is claimed: pending, delivered, and in no box.
