@@ -125,6 +125,7 @@ impl Memory<'_> {
     }
 
     // Listing 1, entry: claim, redeliver what was interrupted, and make the claimed request active. It is refused as its claim is.
+    #[inline(always)]
     fn enter(&mut self, ranking: &mut Ranking, core: CoreId) -> Stepped
         requires { Standing self.old.state.now self.old.active.now self.old.holder.now ranking.old }
         ensures same { Same self.old self.new }
@@ -150,6 +151,7 @@ impl Memory<'_> {
     }
 
     // Listing 1, exit: complete the active request, and set the core to 0.
+    #[inline(always)]
     fn exit(&mut self, ranking: &mut Ranking, core: CoreId) -> Stepped
         requires { Standing self.old.state.now self.old.active.now self.old.holder.now ranking.old }
         ensures same { Same self.old self.new }
