@@ -1,13 +1,15 @@
 -- What is yet to be read of a text, a part at a time. Assumes nothing.
 --   advanced, ended      a part up to a command, and the end of the text (`Continues`)
+--   next_one             a part that gives a command
 --   due                  a number that falls with each part
 --   whole_reading, whole_times    what is left before the first word is the whole reading
 use Prim.Native.Nat.{ℕ, ◌+◌, ◌-◌, ◌<◌, ◌≤◌}
 use mathlib.Core.Path.{◌≡◌, refl, sym, ap, ◌∙◌}
-use mathlib.Core.List.{List, [], ◌++◌, map, append-nil, append_assoc}
+use mathlib.Core.List.{List, [], ◌∷◌, ◌++◌, map, append-nil, append_assoc}
 use mathlib.Core.Bool.{Bool, cond}
 use native.Mathlib.Omega.{arith}
 use lib.ListN.{length, drop_of_length-le}
+use lib.Dec.{ltb}
 use borrow.Author.Tests.{lt-ltb, le-ltb}
 use Rattle.std.specs.Bool.{then_some}
 use Rattle.model.specs.declared.Command.{Command}
@@ -91,6 +93,15 @@ module _ (t : List ℕ) (at : ℕ) (r : Reader) (a : Advanced) where
           moves = λ less. absurd (omega arith);
           reads = end_remaining f e ∙ rw (le-ltb at (length t) ends, er, es, et);
         }
+
+-- ---- a part that gives a command
+
+module _ {t : List ℕ} {at : ℕ} {r : Reader} {a : Advanced} (h : Continues t at r a) {from onto : Option ℕ} {c : Command} where
+  -- it is to come, and then what is to come behind the part
+  pub next_one :
+      from ≡ Some at → onto ≡ then_some (ltb at (length t)) a.end → c ∷ [] ≡ commands_of a.strobe →
+      let q = to_come t onto a.reader in to_come t from r ≡ remaining_with (c ∷ q.commands) (a.time ∷ q.times) q.reader
+  next_one here there e = rw (here, there) (h.reads ∙ rw (← e))
 
 -- ---- the parts that are yet to be read are no more than this number, which falls with each
 

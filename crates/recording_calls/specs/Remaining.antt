@@ -3,8 +3,7 @@
 --   to_come t at r         the same from where the text is read next
 --   Inside t at            that lies in the text
 --   Continues t at r a     a part of it is read, up to a command or the end
---   Takes t q o at r       from what is yet to be read a command is taken, if one is to come
-use Rattle.std.specs.Prelude.{ℕ, ◌<◌, ◌≤◌, ◌≡◌, List, [], ◌∷◌, ◌++◌, map, length, ltb, Option, Some, None}
+use Rattle.std.specs.Prelude.{ℕ, ◌<◌, ◌≤◌, ◌≡◌, List, [], ◌++◌, map, length, ltb, Option, Some, None}
 use Rattle.std.specs.Bool.{then_some}
 use Rattle.model.specs.declared.Command.{Command}
 use Rattle.recording.specs.declared.Reader.{Reader}
@@ -40,12 +39,6 @@ to_come t None r = remaining_with [] [] r
 abbrev pub Inside : List ℕ → Option ℕ → Type 0
 Inside t (Some at) = at ≤ length t
 Inside t None = Unit {0}
-
--- A command with its time, if one is to come, is taken from what is yet to be read, and the rest is to come from there on.
-abbrev pub Takes : List ℕ → Remaining → Option (ℕ × Command) → Option ℕ → Reader → Type 0
-Takes t q (Some x) at r =
-    let rest = to_come t at r in q ≡ remaining_with (x.1 ∷ rest.commands) (x.0 ∷ rest.times) rest.reader
-Takes t q None at r = q ≡ remaining_with [] [] r
 
 -- The command of a strobe, if it gives one, before others.
 abbrev pub before : Option Strobe → ℕ → Remaining → Remaining

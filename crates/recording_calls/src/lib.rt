@@ -9,8 +9,7 @@ ghost use Rattle.layout.specs.Bytes.{one_command};
 ghost use Rattle.recording.specs.Stamps.{max_commands, commands_of};
 ghost use Rattle.recording.specs.Reading.{is_good};
 ghost use Rattle.recording.specs.Calls.{report_with, no_room, read_call, fits_read, DoesRead, replay_call, fits_replay, DoesReplay};
-ghost use Rattle.recording.specs.Records.{start};
-ghost use Rattle.recording_calls.specs.Remaining.{to_come, Inside, Continues, Takes};
+ghost use Rattle.recording_calls.specs.Remaining.{Continues};
 
 use layout::{COMMAND_SIZE, STATE_SIZE, UNREADABLE};
 use model::Command;
@@ -59,15 +58,9 @@ fn room(length: usize) -> usize
 }
 
 // ---- one command after another
-
-// The commands of a text: where it is read next, between two words, and what the reader holds there. None: the end is read, too, which
-// ends a stamp as well.
-#[derive(Drop)]
-struct CommandReader<'a> {
-    text: &'a [u8],
-    at: Option<usize>,
-    reader: Reader,
-}
+//
+// Both calls read on from one command to the next in a loop over variables: in a struct of its own the reader would be copied once more
+// for each command.
 
 // The command of a strobe, none if there is none.
 fn taken(s: Option<Strobe>) -> Option<Command>
@@ -77,7 +70,7 @@ fn taken(s: Option<Strobe>) -> Option<Command>
     decoding::command(s.number, s.target, s.level)
 }
 
-// Reads on to the next command, and from the last word's end to the end of the text.
+// Reads on to the next command, and from the last word's end to the end of the text, which ends a stamp as well.
 #[inline(always)]
 fn next(text: &[u8], at: usize, r: Reader) -> Advanced
     requires { at ≤ length text.now }
@@ -95,39 +88,6 @@ fn next(text: &[u8], at: usize, r: Reader) -> Advanced
     }
 }
 
-impl<'a> CommandReader<'a> {
-    // Before the first word.
-    fn new(text: &'a [u8]) -> CommandReader<'a>
-        ensures { (result.text.now ≡ text.now) × (result.at ≡ Some 0) × (result.reader ≡ start) }
-    {
-        CommandReader {
-            text,
-            at: Some(0),
-            reader: readers::start(),
-        }
-    }
-
-    // The next command and its time, if one is to come.
-    #[inline(always)]
-    fn next_command(&mut self) -> Option<(u64, Command)>
-        requires { Inside self.old.text.now self.old.at }
-        ensures text { self.new.text.now ≡ self.old.text.now }
-        ensures inside { Inside self.new.text.now self.new.at }
-        ensures takes { Takes self.old.text.now (to_come self.old.text.now self.old.at self.old.reader) result
-            self.new.at self.new.reader }
-    {
-        while let Some(at) = self.at {
-            let a = next(self.text, at, self.reader);
-            self.reader = a.reader;
-            self.at = (at < self.text.len()).then_some(a.end);
-            if let Some(c) = taken(a.strobe) {
-                return Some((a.time, c));
-            }
-        }
-        None
-    }
-}
-
 // ---- reading
 
 // Where the buffers have room.
@@ -136,14 +96,21 @@ fn read_all(text: &[u8], commands: &mut [u8], times: &mut [u64]) -> Report
     ensures { DoesRead result commands.new times.new
         (read_call text.now commands.old times.old) }
 {
-    let mut source = CommandReader::new(text);
+    let mut reader = readers::start();
+    // where the text is read next, between two words; None: its end is read, too
+    let mut next_at = Some(0);
     let mut count = 0;
-    while let Some((time, c)) = source.next_command() {
-        encoding::put_command(commands, COMMAND_SIZE * count, c);
-        times[count] = time;
-        count += 1;
+    while let Some(at) = next_at {
+        let a = next(text, at, reader);
+        reader = a.reader;
+        next_at = (at < text.len()).then_some(a.end);
+        if let Some(c) = taken(a.strobe) {
+            encoding::put_command(commands, COMMAND_SIZE * count, c);
+            times[count] = a.time;
+            count += 1;
+        }
     }
-    report_of(source.reader, count as u16, text.len() as u64)
+    report_of(reader, count as u16, text.len() as u64)
 }
 
 // The commands of a recording, five bytes each, and the times of the stamps at whose ends they are taken.
@@ -174,15 +141,22 @@ fn replay_all(n: u16, m: u16, text: &[u8], state: &mut [u8], answers: &mut [u8])
     let fresh = made.state;
     encoding::put_state(state, fresh);
     let mut ranking = steps::begin(state);
-    let mut source = CommandReader::new(text);
+    let mut reader = readers::start();
+    // where the text is read next, between two words; None: its end is read, too
+    let mut next_at = Some(0);
     let mut count = 0;
-    while let Some((_, c)) = source.next_command() {
-        let o = steps::step(state, &mut ranking, c);
-        let (number, id, cycles) = in_place::numbers_of(o);
-        encoding::put_answer(answers, COMMAND_SIZE * count, number, id, cycles);
-        count += 1;
+    while let Some(at) = next_at {
+        let a = next(text, at, reader);
+        reader = a.reader;
+        next_at = (at < text.len()).then_some(a.end);
+        if let Some(c) = taken(a.strobe) {
+            let o = steps::step(state, &mut ranking, c);
+            let (number, id, cycles) = in_place::numbers_of(o);
+            encoding::put_answer(answers, COMMAND_SIZE * count, number, id, cycles);
+            count += 1;
+        }
     }
-    report_of(source.reader, count as u16, text.len() as u64)
+    report_of(reader, count as u16, text.len() as u64)
 }
 
 // The state after the replay of a recording from a fresh controller of n sources and m cores, and its answers, five bytes each. It goes
