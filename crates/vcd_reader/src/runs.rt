@@ -104,7 +104,9 @@ pub fn code_at(text: &[u8], from: usize) -> Option<Coded>
 
 // ---- times
 
-// The decimal number at an offset, if it is a time.
+// The decimal number at an offset, if it is a time: below a tenth of the greatest, any digit more fits. Kept out of its callers, whose
+// registers run short, since a time may be long.
+#[inline(never)]
 pub fn time_at(text: &[u8], from: usize) -> Option<Timed>
     ensures { IfSome result (λ a. TimeThere text.now from a) }
 {
@@ -117,7 +119,10 @@ pub fn time_at(text: &[u8], from: usize) -> Option<Timed>
         if !b.is_ascii_digit() {
             return scanning::is_separator(b).then_some(Timed { end, time });
         }
-        time = time.checked_mul(10)?.checked_add(u64::from(b - b'0'))?;
+        if time >= u64::MAX / 10 {
+            return None;
+        }
+        time = 10 * time + u64::from(b - b'0');
     }
     Some(Timed {
         end: text.len(),

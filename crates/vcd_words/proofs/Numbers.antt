@@ -3,7 +3,7 @@
 --   between_more, between_end    the bytes from i on: the one at i and the rest; none
 --   drop_more                    the bytes from i on: the one at i and the rest
 --   digits_more, bits_more       a digit more, a bit more
---   run_prefix, run_inside       a run of bytes is the front of them
+--   run_prefix, run_short, run_inside    a run of bytes is the front of them
 --   extended_none, extended_first, extended_more    no bytes; bytes that begin a word, or go on with one
 use Prim.Native.Nat.{ℕ, suc, ◌+◌, ◌-◌, ◌<◌, ◌≤◌, min}
 use mathlib.Core.Path.{◌≡◌, refl, sym, ap, ◌∙◌}
@@ -56,7 +56,7 @@ run_prefix (b ∷ bs) = go (flag (separator b)) (run_prefix bs)
     go (on e) h = rw e
     go (off e) h = rw (e, h)
 
-run_short : (bs : List ℕ) → length (run bs) ≤ length bs
+pub run_short : (bs : List ℕ) → length (run bs) ≤ length bs
 run_short bs = omega (arith, ap length (run_prefix bs), length-take (length (run bs)) bs)
 
 module _ (t : List ℕ) (from end : ℕ) (e : end ≡ from + length (run (drop from t))) (h : from < end) where

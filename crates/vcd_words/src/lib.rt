@@ -29,9 +29,10 @@ pub struct Partial {
     pub number: Option<Number>,
 }
 
-// What is kept of the last sixteen bytes.
+// Where a word ends, or the slice does, and what is kept of the last sixteen bytes.
 #[derive(Clone, Copy)]
 pub struct Spelled {
+    pub end: usize,
     pub high: u64,
     pub low: u64,
 }

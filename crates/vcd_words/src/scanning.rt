@@ -24,28 +24,26 @@ pub fn is_separator(b: u8) -> bool
     b <= b' ' && matches!(b, b' ' | b'\t' | b'\r' | b'\n')
 }
 
-// The bytes up to a separator, or all.
-fn run(text: &[u8]) -> &[u8]
-    ensures { result.now ≡ run text.now }
-{
-    let end = text
-        .iter()
-        .position(|b| is_separator(*b))
-        .unwrap_or(text.len());
-    &text[..end]
-}
-
-// What is kept of the last sixteen bytes, after these more: two numbers of eight.
-fn spell(word: &[u8], high: u64, low: u64) -> Spelled
-    ensures { (result.high ≡ spell_high high low word.now) × (result.low ≡ spell_low low word.now) }
+// The bytes up to a separator, or all: where they end, and what is kept of the last sixteen bytes after them, two numbers of eight. One loop
+// does both, since a word may be long.
+fn spell(text: &[u8], high: u64, low: u64) -> Spelled
+    ensures { (result.end ≡ length (run text.now)) × (result.high ≡ spell_high high low (run text.now)) ×
+        (result.low ≡ spell_low low (run text.now)) }
 {
     let mut high = high;
     let mut low = low;
-    for b in word {
+    for (i, b) in text.iter().enumerate() {
+        if is_separator(*b) {
+            return Spelled { end: i, high, low };
+        }
         high = high % SEVEN * 256 + low / SEVEN;
         low = low % SEVEN * 256 + u64::from(*b);
     }
-    Spelled { high, low }
+    Spelled {
+        end: text.len(),
+        high,
+        low,
+    }
 }
 
 // ---- decimal numbers
@@ -56,13 +54,19 @@ pub fn is_digit(b: u8) -> bool
     b.is_ascii_digit()
 }
 
-// A digit more, of a number that is none above 2^64 - 1.
+// A digit more, of a number that is none above 2^64 - 1. Most are below a tenth of that, where any digit fits: one test, and a branch.
 #[tactic(auto, unfolding(crate::specs::Partial::with_digit))]
 fn with_digit(n: Option<u64>, b: u8) -> Option<u64>
     requires { is_digit b ≡ true }
     ensures { result ≡ with_digit n b }
 {
-    n?.checked_mul(10)?.checked_add(u64::from(b - b'0'))
+    let value = n?;
+    let digit = u64::from(b - b'0');
+    if value < u64::MAX / 10 {
+        Some(10 * value + digit)
+    } else {
+        value.checked_mul(10)?.checked_add(digit)
+    }
 }
 
 fn digits(bytes: &[u8], n: Option<u64>) -> Option<Number>
@@ -176,21 +180,22 @@ pub fn scan(text: &[u8], from: usize, p: Partial) -> Scanned
             partial: p,
         };
     };
-    let word = run(rest);
+    let spelled = spell(rest, p.high, p.low);
     Scanned {
-        end: from + word.len(),
-        partial: extended(p, word),
+        end: from + spelled.end,
+        partial: extended(p, &rest[..spelled.end], spelled),
     }
 }
 
-// What is kept of a word, with bytes added.
-fn extended(p: Partial, bytes: &[u8]) -> Partial
+// What is kept of a word, with bytes added of which the last sixteen are spelled.
+fn extended(p: Partial, bytes: &[u8], spelled: Spelled) -> Partial
+    requires { (spelled.high ≡ spell_high p.high p.low bytes.now) × (spelled.low ≡ spell_low p.low bytes.now) }
     ensures { result ≡ extended_by p bytes.now }
 {
     let [b, others @ ..] = bytes else {
         return p;
     };
-    let Spelled { high, low } = spell(bytes, p.high, p.low);
+    let Spelled { high, low, .. } = spelled;
     let length = longer(p.length, bytes.len());
     if p.length == 0 {
         let number = counted(others, begun(*b));

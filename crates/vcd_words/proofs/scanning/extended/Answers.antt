@@ -12,8 +12,8 @@ returns-then-p-eq0 c =
       c.counted-number.ensures,
       c.begun.ensures,
       c.longer-length.ensures,
-      c.spell-high.ensures.0,
-      c.spell-high.ensures.1,
+      c.requires.0,
+      c.requires.1,
     )
     (extended_first c.args.p c.args.bytes.now c.in-len1-up.len_at_least c.if-p-eq0.true)
 
@@ -23,7 +23,7 @@ returns-else-p-eq0 c =
       c.partial_with-else-p-eq0.ensures,
       c.counted-number-else-p-eq0.ensures,
       c.longer-length.ensures,
-      c.spell-high.ensures.0,
-      c.spell-high.ensures.1,
+      c.requires.0,
+      c.requires.1,
     )
     (extended_more c.args.p c.args.bytes.now c.in-len1-up.len_at_least c.if-p-eq0.false)
