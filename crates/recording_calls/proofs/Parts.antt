@@ -1,6 +1,7 @@
 -- What is yet to be read of a text, a part at a time. Assumes nothing.
 --   advanced, ended      a part up to a command, and the end of the text (`Continues`)
 --   next_one             a part that gives a command
+--   Inside               where the text is read next lies in it
 --   due                  a number that falls with each part
 --   whole_reading, whole_times    what is left before the first word is the whole reading
 use Prim.Native.Nat.{ℕ, ◌+◌, ◌-◌, ◌<◌, ◌≤◌}
@@ -102,6 +103,12 @@ module _ {t : List ℕ} {at : ℕ} {r : Reader} {a : Advanced} (h : Continues t 
       from ≡ Some at → onto ≡ then_some (ltb at (length t)) a.end → c ∷ [] ≡ commands_of a.strobe →
       let q = to_come t onto a.reader in to_come t from r ≡ remaining_with (c ∷ q.commands) (a.time ∷ q.times) q.reader
   next_one here there e = rw (here, there) (h.reads ∙ rw (← e))
+
+-- ---- where the text is read next
+
+abbrev pub Inside : List ℕ → Option ℕ → Type 0
+Inside t (Some at) = at ≤ length t
+Inside t None = Unit {0}
 
 -- ---- the parts that are yet to be read are no more than this number, which falls with each
 

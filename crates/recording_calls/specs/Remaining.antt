@@ -1,7 +1,6 @@
 -- What is yet to be read of a text. Helpers of contracts; nothing here needs to be believed. Assumes nothing.
 --   remaining t at r       from an offset between two words on, to the text's end and with it
 --   to_come t at r         the same from where the text is read next
---   Inside t at            that lies in the text
 --   Continues t at r a     a part of it is read, up to a command or the end
 use Rattle.std.specs.Prelude.{ℕ, ◌<◌, ◌≤◌, ◌≡◌, List, [], ◌++◌, map, length, ltb, Option, Some, None}
 use Rattle.std.specs.Bool.{then_some}
@@ -35,10 +34,6 @@ remaining t at r = to_end (length t) (read_words (progress r []) (words_from t a
 abbrev pub to_come : List ℕ → Option ℕ → Reader → Remaining
 to_come t (Some at) r = remaining t at r
 to_come t None r = remaining_with [] [] r
-
-abbrev pub Inside : List ℕ → Option ℕ → Type 0
-Inside t (Some at) = at ≤ length t
-Inside t None = Unit {0}
 
 -- The command of a strobe, if it gives one, before others.
 abbrev pub before : Option Strobe → ℕ → Remaining → Remaining

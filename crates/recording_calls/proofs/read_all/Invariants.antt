@@ -1,7 +1,7 @@
 -- `recording_calls::read_all` meets its contract. The loop's invariant is `ReadTo`: as many commands as are counted stand in the two
 -- buffers, and with those to come they are the whole text's. The measure is `due`. Assumes nothing.
-use Rattle.recording_calls.specs.Remaining.{to_come, Inside}
-use Rattle.recording_calls.proofs.Parts.{due}
+use Rattle.recording_calls.specs.Remaining.{to_come}
+use Rattle.recording_calls.proofs.Parts.{Inside, due}
 use Rattle.recording_calls.proofs.Commands.{ReadTo}
 use Rattle.recording_calls.proofs.read_all.Given as goal
 

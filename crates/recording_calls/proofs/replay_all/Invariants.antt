@@ -4,8 +4,8 @@
 use Rattle.model.specs.Records.{reset}
 use Rattle.layout.specs.Bytes.{state_from}
 use Rattle.steps.specs.Going.{Going}
-use Rattle.recording_calls.specs.Remaining.{to_come, Inside}
-use Rattle.recording_calls.proofs.Parts.{due}
+use Rattle.recording_calls.specs.Remaining.{to_come}
+use Rattle.recording_calls.proofs.Parts.{Inside, due}
 use Rattle.recording_calls.proofs.Answers.{ReplayedTo}
 use Rattle.recording_calls.proofs.replay_all.Given as goal
 
