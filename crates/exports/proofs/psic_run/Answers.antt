@@ -36,7 +36,7 @@ loop-k-preserved c =
       | then-sound w ↦
           let went = went_by w.step-o.ensures w.state-is w.ranking-is w.o-is in (
             rw next at (run_more l.invariant.0 (omega arith) read went.state_is c.put_answer.ensures
-            (same_bytes_lem (says_same _ c.numbers_of-number.ensures went.says))),
+                (same_bytes_lem (says_same _ c.numbers_of-number.ensures went.says))),
             went.going,
             went.kept ∙ l.invariant.2,
           )
@@ -44,7 +44,7 @@ loop-k-preserved c =
           let none = none_here l.ranking (l.invariant.2 ∙ w.if-sound.false) in
           let went = went_by (go_refused _ _ l.invariant.1 none) w.state-is w.ranking-is w.o-is in (
             rw next at (run_more l.invariant.0 (omega arith) read went.state_is c.put_answer.ensures
-            (same_bytes_lem (says_same _ c.numbers_of-number.ensures went.says))),
+                (same_bytes_lem (says_same _ c.numbers_of-number.ensures went.says))),
             went.going,
             went.kept ∙ l.invariant.2,
           )

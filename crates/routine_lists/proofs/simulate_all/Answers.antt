@@ -19,7 +19,7 @@ count-raised-requires c =
     let l = c.loop-k in
     let named = sym c.call_of-read.ensures ∙ c.in-Some.is in
     let went : Went (simulation_in l.memory) c.in-Some.c c.if-sound.o c.if-sound.memory.state.now c.if-sound.memory.active.now
-        c.if-sound.memory.holder.now c.if-sound.ranking =
+    c.if-sound.memory.holder.now c.if-sound.ranking =
     elim c.if-sound.branch [
       | then-sound w ↦ rw (w.memory-is, w.ranking-is, w.o-is) w.step-o.ensures.went
       | else-sound w ↦
@@ -38,7 +38,7 @@ loop-k-preserved c =
     let named = sym c.call_of-read.ensures ∙ c.in-Some.is in
     let read = fives_read read_call c.args.list.now i c.word_at-at.ensures c.word_at.ensures (ap one_call named) in
     let went : Went (simulation_in l.memory) c.in-Some.c c.if-sound.o c.if-sound.memory.state.now c.if-sound.memory.active.now
-        c.if-sound.memory.holder.now c.if-sound.ranking =
+    c.if-sound.memory.holder.now c.if-sound.ranking =
     elim c.if-sound.branch [
       | then-sound w ↦ rw (w.memory-is, w.ranking-is, w.o-is) w.step-o.ensures.went
       | else-sound w ↦
@@ -46,9 +46,9 @@ loop-k-preserved c =
           (go_refused _ _ _ _ l.invariant.1 (none_here l.ranking (l.invariant.3 ∙ w.if-sound.false)))
     ] in
     let same : Same l.memory c.if-sound.memory =
-    elim c.if-sound.branch [ | then-sound w ↦ rw w.memory-is w.step-o.ensures.same | else-sound w ↦ rw w.memory-is (refl, refl, refl) ] in
+    elim c.if-sound.branch [ then-sound w ↦ rw w.memory-is w.step-o.ensures.same | else-sound w ↦ rw w.memory-is (refl, refl, refl) ] in
     let kept : is_some c.if-sound.ranking ≡ is_some l.ranking =
-    elim c.if-sound.branch [ | then-sound w ↦ rw w.ranking-is w.step-o.ensures.kept | else-sound w ↦ rw w.ranking-is refl ] in
+    elim c.if-sound.branch [ then-sound w ↦ rw w.ranking-is w.step-o.ensures.kept | else-sound w ↦ rw w.ranking-is refl ] in
     let counted : c.if-is_some.counts ≡ table_after l.counts (simulation_in l.memory) c.in-Some.c =
     elim c.if-is_some.branch [
       | then-is_some w ↦
