@@ -3,7 +3,6 @@
 --   bad_bytes, bad_number, execute_went           `execute_call`
 --   run_fit, run_unfit, run_by                    `run_call`: a run, none, either
 --   run_ran, run_unread, run_no_room              the same from what the loop has left, and from the tests before it
---   went_by               one command more, as it is told where two ways meet
 use Prim.Native.Nat.{ℕ}
 use mathlib.Core.Path.{◌≡◌, refl, sym, ◌∙◌, ap, subst}
 use mathlib.Core.List.{List}
@@ -27,10 +26,6 @@ use Rattle.in_place.specs.declared.Ranking.{Ranking}
 use Rattle.in_place.specs.Steps.{Outcome, Says}
 use Rattle.in_place.proofs.Refused.{says_same}
 use Rattle.steps.specs.Going.{Went}
-
-pub went_by :
-    {a : Answer} {r r' r'' : Option Ranking} {o o' : Outcome} {b b' : List ℕ} → Went a r o b r' → b' ≡ b → r'' ≡ r' → o' ≡ o → Went a r o' b' r''
-went_by h p q e = rw (p, q, e) h
 
 done : (r : ℕ) (b : List ℕ) (call : Call) → call ≡ call_of r b → Does r b call
 done r b call e = (sym (ap (λ (x : Call). x.result) e), sym (ap (λ (x : Call). x.bytes) e))

@@ -1,13 +1,15 @@
 -- `exports::psic_run` meets its contract. The loop's invariant is `RunTo`: the first k commands are taken, and what is left of the list
 -- ends as the whole does from the start; and the state in the bytes can go on. Assumes nothing.
 use Rattle.std.proofs.Common.{◌≡◌, ◌+◌, ◌*◌, arith, sym, ap, ◌∙◌}
-use Rattle.layout.specs.Bytes.{command_size, one_command}
+use Rattle.model.specs.Commands.{execute}
+use Rattle.layout.specs.Bytes.{command_size, one_command, state_from}
 use Rattle.layout.proofs.Answers.{read_command, same_bytes_lem}
 use Rattle.layout.proofs.Fives.{fives_read}
 use Rattle.layout.proofs.Lists.{not_whole, no_room, run_more, run_end, run_stop}
 use Rattle.in_place.proofs.Refused.{says_same, none_here}
+use Rattle.steps.specs.Going.{Went}
 use Rattle.steps.proofs.Gone.{go_refused}
-use Rattle.exports.proofs.Calls.{run_unread, run_no_room, run_ran, went_by}
+use Rattle.exports.proofs.Calls.{run_unread, run_no_room, run_ran}
 use Rattle.exports.proofs.psic_run.Goals as goal
 use Rattle.exports.proofs.psic_run.Goals.{then-sound, else-sound}
 use Rattle.exports.proofs.psic_run.Goals.{then-list-ne0-via-then-list-ne0, then-list-ne0-via-else-list-ne0+then-answers-list}
@@ -31,24 +33,18 @@ loop-k-preserved c =
     let i = command_size * l.k in
     let read = fives_read read_command c.args.list.now i c.word_at.ensures c.word_at-in-loop-k.ensures
     (ap one_command (sym c.command-read.ensures ∙ c.in-Some.is)) in
-    let next : i + command_size ≡ command_size * (l.k + 1) = omega arith in
+    let went : Went (execute (state_from l.state) c.in-Some.c) l.ranking c.if-sound.o c.if-sound.state c.if-sound.ranking =
     elim c.if-sound.branch [
-      | then-sound w ↦
-          let went = went_by w.step-o.ensures w.state-is w.ranking-is w.o-is in (
-            rw next at (run_more l.invariant.0 (omega arith) read went.state_is c.put_answer.ensures
-                (same_bytes_lem (says_same _ c.numbers_of-number.ensures went.says))),
-            went.going,
-            went.kept ∙ l.invariant.2,
-          )
+      | then-sound w ↦ rw (w.state-is, w.ranking-is, w.o-is) w.step-o.ensures
       | else-sound w ↦
-          let none = none_here l.ranking (l.invariant.2 ∙ w.if-sound.false) in
-          let went = went_by (go_refused _ _ l.invariant.1 none) w.state-is w.ranking-is w.o-is in (
-            rw next at (run_more l.invariant.0 (omega arith) read went.state_is c.put_answer.ensures
-                (same_bytes_lem (says_same _ c.numbers_of-number.ensures went.says))),
-            went.going,
-            went.kept ∙ l.invariant.2,
-          )
-    ]
+          rw (w.state-is, w.ranking-is, w.o-is) (go_refused _ _ l.invariant.1 (none_here l.ranking (l.invariant.2 ∙ w.if-sound.false)))
+    ] in
+    let said = says_same _ c.numbers_of-number.ensures went.says in
+    let next : i + command_size ≡ command_size * (l.k + 1) = omega arith in (
+      rw next at (run_more l.invariant.0 (omega arith) read went.state_is c.put_answer.ensures (same_bytes_lem said)),
+      went.going,
+      went.kept ∙ l.invariant.2,
+    )
 
 -- the next bytes name no command
 pub returns-in_default : goal.returns-in_default
