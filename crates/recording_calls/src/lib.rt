@@ -59,8 +59,8 @@ fn room(length: usize) -> usize
 
 // ---- one command after another
 //
-// Both calls read on from one command to the next in a loop over variables: in a struct of its own the reader would be copied once more
-// for each command.
+// Both calls read on from one command to the next in a loop over variables: the reader, and where the text is read next, between two
+// words; None: its end is read, too. In a struct of its own the reader would be copied once more for each command.
 
 // The command of a strobe, none if there is none.
 fn taken(s: Option<Strobe>) -> Option<Command>
@@ -97,7 +97,6 @@ fn read_all(text: &[u8], commands: &mut [u8], times: &mut [u64]) -> Report
         (read_call text.now commands.old times.old) }
 {
     let mut reader = readers::start();
-    // where the text is read next, between two words; None: its end is read, too
     let mut next_at = Some(0);
     let mut count = 0;
     while let Some(at) = next_at {
@@ -142,7 +141,6 @@ fn replay_all(n: u16, m: u16, text: &[u8], state: &mut [u8], answers: &mut [u8])
     encoding::put_state(state, fresh);
     let mut ranking = steps::begin(state);
     let mut reader = readers::start();
-    // where the text is read next, between two words; None: its end is read, too
     let mut next_at = Some(0);
     let mut count = 0;
     while let Some(at) = next_at {
