@@ -124,7 +124,8 @@ impl Memory<'_> {
         Ok(after(accepted.cycles))
     }
 
-    // Listing 1, entry: claim, redeliver what was interrupted, and make the claimed request active. It is refused as its claim is.
+    // Listing 1, entry: claim, redeliver what was interrupted, and make the claimed request active. It is refused as its claim is. As exit
+    // it stands in the step, where a refusal costs no call.
     #[inline(always)]
     fn enter(&mut self, ranking: &mut Ranking, core: CoreId) -> Stepped
         requires { Standing self.old.state.now self.old.active.now self.old.holder.now ranking.old }

@@ -35,7 +35,8 @@ fn offer(state: &mut [u8], ranking: &mut Ranking, m: usize, i: usize, r: Source)
     Ok(Accepted::after(1))
 }
 
-// Whether a filled box of the first m cores names the source.
+// Whether a filled box of the first m cores names the source. A `for` kept out of line: with `any`, or inlined, two branches a core are
+// left, and of filled and empty boxes in any order they are often guessed wrong.
 #[inline(never)]
 fn boxed(state: &[u8], m: usize, id: SourceId) -> bool
     requires { (length state.now ≡ state_size) × (m ≤ max_cores) }
